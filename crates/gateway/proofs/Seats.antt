@@ -1,5 +1,5 @@
 -- Jobs that are taken at a seat, one after the other.
-use Rattle.std.proofs.Common.{◌≡◌, ap, sym, ◌∙◌, subst, arith, ℕ, ◌+◌, ◌<◌, ◌≤◌, List, [], ◌∷◌, ◌++◌, length, take, get_or, append-nil}
+use Rattle.std.proofs.Common.{◌≡◌, refl, ap, sym, ◌∙◌, subst, arith, ℕ, ◌+◌, ◌<◌, ◌≤◌, List, [], ◌∷◌, ◌++◌, length, take, get_or, append-nil}
 use Rattle.std.proofs.Common.{append_assoc, length-append}
 use Rattle.std.proofs.lemmas.List.{nil_from_length}
 use Rattle.std.proofs.Math.Seq.{take-suc}
@@ -24,7 +24,7 @@ goes-then workers shape more others old mid new one other = λ first jobs t.
 
 -- none so far
 pub taken-none : (workers : ℕ) (shape : Shape) (s : JobSeatState) → AreTaken workers shape [] s s []
-taken-none workers shape s = (goes-nowhere workers shape s, sym (append-nil (outcomes s)))
+taken-none workers shape s = (goes-nowhere workers shape s, sym (append-nil (outcomes s)), refl)
 
 -- one more
 pub taken-next : (workers : ℕ) (shape : Shape) (jobs : List Job) (i : ℕ) (job : Job) (old mid new : JobSeatState) (told : List JobAnswer)
@@ -34,6 +34,8 @@ pub taken-next : (workers : ℕ) (shape : Shape) (jobs : List Job) (i : ℕ) (jo
 taken-next workers shape jobs i job old mid new told answer lt at are goes kept = (
   subst (λ js. GoesOn workers shape 0 js old new) (sym more) (goes-then workers shape (take i jobs) (job ∷ []) old mid new are.0 goes),
   kept ∙ (ap (λ front. front ++ answer ∷ []) are.1 ∙ append_assoc (outcomes old) told (answer ∷ [])),
+  (let longer = length-append told (answer ∷ []) in
+      let others = length-append (take i jobs) (job ∷ []) in omega (arith, are.2, longer, others, ap length more)),
 )
   where
     more : take (i + 1) jobs ≡ take i jobs ++ job ∷ []
@@ -41,7 +43,8 @@ taken-next workers shape jobs i job old mid new told answer lt at are goes kept 
 
 -- a call that takes no job
 pub takes-none : (workers : ℕ) (shape : Shape) (s : JobSeatState) → TakesJobs workers shape s s []
-takes-none workers shape s = record { jobs = []; goes = goes-nowhere workers shape s; kept = sym (append-nil (outcomes s)) }
+takes-none workers shape s =
+    record { jobs = []; goes = goes-nowhere workers shape s; kept = sym (append-nil (outcomes s)); each = refl }
 
 -- a fault that takes no answer back leaves what was told
 pub taken-still : (workers : ℕ) (shape : Shape) (jobs : List Job) (old mid new : JobSeatState) (told : List JobAnswer)
@@ -51,6 +54,7 @@ pub taken-still : (workers : ℕ) (shape : Shape) (jobs : List Job) (old mid new
 taken-still workers shape jobs old mid new told are front whole le = (
   subst (λ js. GoesOn workers shape 0 js old new) (append-nil jobs) (goes-then workers shape jobs [] old mid new are.0 (whole same)),
   sym (append-nil (outcomes new)) ∙ (ap (λ rest. outcomes new ++ rest) (sym none) ∙ (front.1 ∙ are.1)),
+  are.2,
 )
   where
     same : length (outcomes new) ≡ length (outcomes mid)

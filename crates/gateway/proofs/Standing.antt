@@ -1,5 +1,5 @@
 -- What a round told stands once it has settled.
-use Rattle.std.proofs.Common.{◌≡◌, refl, ap, sym, ◌∙◌, subst, arith, ℕ, ◌+◌, ◌≤◌, Bool, false, Option, None, Some}
+use Rattle.std.proofs.Common.{◌≡◌, refl, ap, sym, ◌∙◌, subst, arith, ℕ, false, Option, None, Some}
 use Rattle.std.proofs.Common.{List, [], ◌∷◌, ◌++◌, length, map, All, append-nil, append_assoc, length-append}
 use Rattle.std.specs.List.{AllZip}
 use Rattle.std.proofs.lemmas.List.{nil_from_length, length-map}
@@ -7,9 +7,7 @@ use Rattle.std.proofs.lemmas.List.Elements.{All-cons}
 use Rattle.http.specs.declared.request.Request.{Request}
 use Rattle.http_server.specs.declared.response.Response.{Response}
 use Rattle.http_server.specs.Exchange.{Call, Chain}
-use Rattle.rows.specs.declared.commit.Commit.{Commit}
 use Rattle.rows.specs.Shape.{Shape}
-use Rattle.primary.specs.declared.ticket.Ticket.{Ticket}
 use Rattle.desk.specs.State.{SeatState}
 use Rattle.sockets.specs.declared.job.Job.{Job}
 use Rattle.sockets.specs.declared.job_answer.JobAnswer.{JobAnswer}
@@ -17,7 +15,7 @@ use Rattle.sockets.specs.Answers.{IsJobAnswer}
 use Rattle.sockets.specs.JobSeats.{JobSeatState, HasTaken, GoesOn, IsPending, outcomes, ticket_answer}
 use Rattle.service.specs.declared.denial.Denial.{Denial}
 use Rattle.service.specs.Denials.{denial_of, AnswersAt, WithDenials}
-use Rattle.gateway.specs.Jobs.{DeskState, AnswersJobs, AreDone, IsCall, IsJobs, IsSettled, Tells, TakesJobs, ToldStands, WhatIsToldStands}
+use Rattle.gateway.specs.Jobs.{DeskState, AnswersJobs, IsSettled, ToldStands, WhatIsToldStands}
 
 -- lists that are related one by one are as long as each other
 zip-long : {A B : Type 0} (R : A → B → Type 0) (xs : List A) (ys : List B) → AllZip R xs ys → length xs ≡ length ys
@@ -153,13 +151,14 @@ told-call workers shape first jobs old next end new request response t is kept l
     (append-nil ((jobs ++ takes.jobs) ++ later.more))
     (taken-whole workers shape first (((jobs ++ takes.jobs) ++ later.more) ++ []) settled.done last settled.none))) in (
       told,
-      tells.1,
+      tells.2,
       record {
+        some = tells.0;
         jobs = takes.jobs;
         each =
             zip-back R jobs takes.jobs (outcomes old.job_seat) told many
             (zip-front R (jobs ++ takes.jobs) later.more (outcomes old.job_seat ++ told) later.told (more ∙ both) each);
-        tickets = tells.0;
+        tickets = tells.1;
       },
     )
 

@@ -1,5 +1,5 @@
 -- What a primary answers to jobs, and when it stands.
-use Rattle.std.specs.Prelude.{◌≡◌, ℕ, Bool, true, false, List, [], ◌++◌, length, codes, All, Option, None}
+use Rattle.std.specs.Prelude.{◌≡◌, ℕ, ◌<◌, Bool, true, false, List, [], ◌++◌, length, codes, All, None}
 use Rattle.std.specs.List.{AllZip}
 use Rattle.http.specs.declared.request.Request.{Request}
 use Rattle.http.specs.Request.{head_of}
@@ -27,16 +27,17 @@ IsTicket (answers.Ticket number) = Unit {0}
 IsTicket (answers.Conflict number) = ⊥
 IsTicket (answers.Refused refusal) = ⊥
 
--- what is told of jobs that are answered so: with status 200 or 409 their lines, and with 200 each has a ticket
+-- what is told of jobs that are answered so: with status 200 or 409 their lines, and with 200 there is one at least, and each has a ticket
 pub record Tells (told : List JobAnswer) (response : Response) : Type 0 where
-  pub all : response.status ≡ 200 → All IsTicket told × (response.body.items ≡ numbered_lines 0 told)
+  pub all : response.status ≡ 200 → (0 < length told) × All IsTicket told × (response.body.items ≡ numbered_lines 0 told)
   pub some : response.status ≡ 409 → response.body.items ≡ numbered_lines 0 told
 
--- jobs were taken at a seat, which are answered so
+-- jobs were taken at a seat, each of which is answered so
 pub record TakesJobs (workers : ℕ) (shape : Shape) (old new : JobSeatState) (told : List JobAnswer) : Type 0 where
   pub jobs : List Job
   pub goes : GoesOn workers shape 0 jobs old new
   pub kept : outcomes new ≡ outcomes old ++ told
+  pub each : length told ≡ length jobs
 
 -- a call at a seat: it takes jobs, and if the request has some, tells what they are answered
 abbrev pub IsCall : ℕ → Shape → JobSeatState → Request (List ℕ) → Response → JobSeatState → Type 0
@@ -69,6 +70,7 @@ SettlesJobs workers shape old stands new =
 -- jobs that were answered with tickets, whose commits stand in the list: each is of the job's worker, and has the entries that the
 -- job's steps make from version `from` or a later one
 pub record AreDone (shape : Shape) (from : ℕ) (list : List Commit) (told : List JobAnswer) : Type 0 where
+  pub some : 0 < length told
   pub jobs : List Job
   pub each : AllZip (IsJobAnswer shape from list) jobs told
   pub tickets : All IsTicket told

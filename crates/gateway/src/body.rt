@@ -1,5 +1,7 @@
 //! Jobs of a request's body.
 
+ghost use Rattle.std.specs.Prelude.{◌<◌, length, IfOk};
+
 use requests::{Dialect, JobReader, LineFault, Request, RequestFault, Requested};
 use script::Setup;
 use sockets::Job;
@@ -14,7 +16,9 @@ pub(crate) enum BodyFault {
 }
 
 /// All jobs of a body, in their order: one at least. None is done if one does not read.
-pub(crate) fn jobs_of(alloc: Global, setup: &Setup, body: &[u8]) -> Result<Vec<Job>, BodyFault> {
+pub(crate) fn jobs_of(alloc: Global, setup: &Setup, body: &[u8]) -> Result<Vec<Job>, BodyFault>
+    ensures { IfOk result (λ jobs. 0 < length jobs.items) }
+{
     let mut rest = body;
     let mut reader = JobReader::new(alloc, Dialect::Live);
     let mut jobs = Vec::new(alloc);

@@ -1,6 +1,6 @@
 //! Jobs of requests, taken at a seat and made durable at the end of a round.
 
-ghost use Rattle.std.specs.Prelude.{◌≡◌, List, [], false, true, All};
+ghost use Rattle.std.specs.Prelude.{◌≡◌, ◌<◌, List, length, [], false, true, All};
 ghost use Rattle.http_server.specs.Response.{IsBlank};
 ghost use Rattle.rows.specs.Shape.{shape_of};
 ghost use Rattle.sockets.specs.declared.job_answer.JobAnswer.{JobAnswer as Answer};
@@ -144,9 +144,10 @@ impl<'a, L: Origin, J: JournalStore + Drop, H: Wait + Drop, T: Wait> JobDesk<'a,
     }
 }
 
-/// Tells what jobs are answered.
+/// Tells what jobs are answered, of which there is one at least.
 fn tell(alloc: Global, told: &[JobAnswer], response: &mut Response)
-    requires { IsBlank response.old }
+    requires blank { IsBlank response.old }
+    requires some { 0 < length told.now }
     ensures { Tells told.now response.new }
 {
     let Ok(text) = lines_of(alloc, told) else {

@@ -14,6 +14,9 @@ use std::alloc::Global;
 use std::sync::Wait;
 use std::test::Fail;
 
+/// Workers of each primary.
+pub const WORKERS: u8 = 2;
+
 /// Two workers, and accounts of two numbers.
 const SETTINGS: &str = "workers 2\nreplicas 1\ntable acct int int\n";
 

@@ -1,6 +1,6 @@
 //! A journal that fails: nothing of the round stands.
 
-use crate::desks::{Round, all_go_so, setup};
+use crate::desks::{Round, WORKERS, all_go_so, setup};
 use journal::JournalStore;
 use primary::{PrimaryCore, StartFault};
 use scenarios_journal_common::failing_journal::{Failing, FailingJournal, Failure};
@@ -92,7 +92,7 @@ fn go_so<R: Wait>(rt: &R, alloc: Global, rounds: &[Round]) -> Result<bool, Fail>
     if journal.faults() == u64::MAX {
         return Err("too many faults".into());
     }
-    let core = match PrimaryCore::start(alloc, journal, &setup.schema, setup.workers) {
+    let core = match PrimaryCore::start(alloc, journal, &setup.schema, WORKERS) {
         Ok(core) => core,
         Err((_, StartFault::Memory)) => return Err("out of memory".into()),
         Err(_) => return Err("not started".into()),

@@ -1,6 +1,6 @@
 //! Jobs in bodies: what they are answered, and what later ones find.
 
-use crate::desks::{Round, all_go_so, setup};
+use crate::desks::{Round, WORKERS, all_go_so, setup};
 use journal::MemJournal;
 use primary::{PrimaryCore, StartFault};
 use shared::Start;
@@ -184,12 +184,7 @@ const TOGETHER: [Round; 2] = [
 /// Whether rounds go so on a new primary.
 fn go_so<R: Wait>(rt: &R, alloc: Global, rounds: &[Round]) -> Result<bool, Fail> {
     let setup = setup(alloc)?;
-    let core = match PrimaryCore::start(
-        alloc,
-        MemJournal::new(alloc),
-        &setup.schema,
-        setup.workers,
-    ) {
+    let core = match PrimaryCore::start(alloc, MemJournal::new(alloc), &setup.schema, WORKERS) {
         Ok(core) => core,
         Err((_, StartFault::Memory)) => return Err("out of memory".into()),
         Err(_) => return Err("not started".into()),

@@ -1,5 +1,5 @@
 -- How far jobs were taken.
-use Rattle.std.specs.Prelude.{◌≡◌, ℕ, List, ◌++◌, take}
+use Rattle.std.specs.Prelude.{◌≡◌, ℕ, List, ◌++◌, length, take}
 use Rattle.rows.specs.Shape.{Shape}
 use Rattle.sockets.specs.declared.job.Job.{Job}
 use Rattle.sockets.specs.declared.job_answer.JobAnswer.{JobAnswer}
@@ -9,7 +9,8 @@ use Rattle.gateway.specs.declared.taking.Taken.TheVariants as takens
 
 -- these jobs were taken, and are told these answers
 abbrev pub AreTaken : ℕ → Shape → List Job → JobSeatState → JobSeatState → List JobAnswer → Type 0
-AreTaken workers shape jobs old new told = GoesOn workers shape 0 jobs old new × (outcomes new ≡ outcomes old ++ told)
+AreTaken workers shape jobs old new told =
+    GoesOn workers shape 0 jobs old new × (outcomes new ≡ outcomes old ++ told) × (length told ≡ length jobs)
 
 -- how far they were taken
 abbrev pub HasTaken : ℕ → Shape → List Job → JobSeatState → JobSeatState → List JobAnswer → Taken → Type 0

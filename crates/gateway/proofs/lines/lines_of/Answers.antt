@@ -1,7 +1,6 @@
 -- One line more.
-use Rattle.std.proofs.Common.{ap, sym, ◌∙◌, ◌++◌}
+use Rattle.std.proofs.Common.{sym, ◌∙◌}
 use Rattle.sockets.specs.declared.job_answer.JobAnswer.TheVariants.{Ticket}
-use Rattle.gateway.specs.Lines.{answer_line}
 use Rattle.gateway.proofs.Telling.{numbered-next}
 use Rattle.gateway.proofs.lines.lines_of.Goals as goal
 

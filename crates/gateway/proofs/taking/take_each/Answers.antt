@@ -1,9 +1,8 @@
 -- The jobs are taken one after the other.
-use Rattle.std.proofs.Common.{◌≡◌, ap, sym, ◌∙◌, subst, arith, ◌+◌, ◌≤◌, ◌∷◌, [], ◌++◌, length, take, List}
+use Rattle.std.proofs.Common.{ap, sym, ◌∙◌, subst, arith, ◌+◌, ◌∷◌, [], ◌++◌, take, List}
 use Rattle.std.proofs.lemmas.List.{take_all}
 use Rattle.rows.specs.Shape.{shape_of}
 use Rattle.sockets.specs.declared.job_answer.JobAnswer.{JobAnswer}
-use Rattle.sockets.specs.JobSeats.{outcomes}
 use Rattle.gateway.specs.Inner.Taking.{AreTaken}
 use Rattle.gateway.proofs.Seats.{taken-next, taken-still}
 use Rattle.gateway.proofs.taking.take_each.Goals as goal

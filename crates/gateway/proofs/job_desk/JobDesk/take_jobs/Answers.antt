@@ -24,4 +24,4 @@ returns-in-Failed g c = λ kept.
     let response = c.tell_fault-in-Failed.new.response in
     subst (λ (d : DeskState). (d.has_lost ≡ false)
     × ((x : List JobAnswer) × TakesJobs workers shape d.job_seat new x × Tells x response)) c.self.view_is
-    (kept, (told, record { jobs = take are.0 c.deref-2.result.now; goes = are.1.0; kept = are.1.1 }, c.tell_fault-in-Failed.ensures told))
+    (kept, (told, record { jobs = take are.0 c.deref-2.result.now; goes = are.1.0; kept = are.1.1; each = are.1.2 }, c.tell_fault-in-Failed.ensures told))
