@@ -50,13 +50,13 @@ fn is_text(body: &mut Rope, text: &[u8]) -> bool {
     true
 }
 
-/// Whether a desk answers a request so.
-fn answers_so<L: Origin, J: JournalStore + Drop, R: Wait>(
+/// The status with which a desk answers a request, and whether the answer has the text that is wanted.
+pub fn answer_of<L: Origin, J: JournalStore + Drop, R: Wait>(
     alloc: Global,
     desk: &mut JobDesk<'_, L, J, &R, R>,
     exchange: &Exchange,
-) -> Option<bool> {
-    let (method, target, body, status, text) = *exchange;
+) -> Option<(u16, bool)> {
+    let (method, target, body, _, text) = *exchange;
     let Ok(request) = Request::builder(alloc)
         .method(method)
         .uri(target)
@@ -66,7 +66,7 @@ fn answers_so<L: Origin, J: JournalStore + Drop, R: Wait>(
     };
     let mut response = Response::new(alloc);
     desk.take(&request, &mut response);
-    Some(response.status.as_u16() == status && is_text(&mut response.body, text))
+    Some((response.status.as_u16(), is_text(&mut response.body, text)))
 }
 
 /// Whether a desk answers the requests of a round so, and then settles so.
@@ -76,7 +76,7 @@ fn goes_so<L: Origin, J: JournalStore + Drop, R: Wait>(
     round: &Round,
 ) -> Option<bool> {
     for exchange in round.0 {
-        if !answers_so(alloc, desk, exchange)? {
+        if answer_of(alloc, desk, exchange)? != (exchange.3, true) {
             return Some(false);
         }
     }

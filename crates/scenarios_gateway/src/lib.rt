@@ -6,4 +6,6 @@ mod desks;
 #[cfg(test)]
 mod failing;
 #[cfg(test)]
+mod failures;
+#[cfg(test)]
 mod jobs;

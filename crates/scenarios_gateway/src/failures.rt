@@ -1,0 +1,88 @@
+//! Whichever request for memory is refused: what is told of jobs is true.
+
+ghost use Rattle.std.specs.Prelude.{◌≡◌};
+
+use crate::desks::{Exchange, WORKERS, answer_of, setup};
+use gateway::{JobDesk, WorkerCount};
+use journal::{JournalStore, MemJournal};
+use primary::PrimaryCore;
+use script::Setup;
+use shared::{Line, Origin, Start};
+use std::alloc::Global;
+use std::marker::Brand;
+use std::sync::Wait;
+use std::test::Fail;
+
+/// Three jobs, the last of which needs the first.
+const JOBS: Exchange = (
+    "POST",
+    "/jobs",
+    b"job 0\ninsert acct 1 1 1\nend\njob 1\ninsert acct 2 1 1\nend\njob 0\nset acct 1 0 9\nend\n",
+    200,
+    b"job 0 ticket 1\njob 1 ticket 2\njob 2 ticket 3\n",
+);
+
+/// A job that needs all of them.
+const AFTER: Exchange = (
+    "POST",
+    "/jobs",
+    b"job 0\nexpect acct 1 0 9\nexpect acct 2 0 1\nset acct 1 1 1\nend\n",
+    200,
+    b"job 0 ticket 4\n",
+);
+
+/// Whether a desk tells the truth: if it answers 200 and the round stands, all jobs are done.
+fn is_true<L: Origin, J: JournalStore + Drop, R: Wait>(
+    alloc: Global,
+    desk: &mut JobDesk<'_, L, J, &R, R>,
+) -> Option<bool> {
+    match answer_of(alloc, desk, &JOBS)? {
+        (200, true) => {}
+        (200, false) => return Some(false),
+        (status, _) => return Some(status == 503),
+    }
+    if !desk.settle_round() {
+        return Some(true);
+    }
+    Some(answer_of(alloc, desk, &AFTER)? == (200, true) && desk.settle_round())
+}
+
+/// Whether a desk tells the truth on a line of this primary.
+fn is_true_on_line<L: Origin, J: JournalStore + Drop, R: Wait>(
+    rt: &R,
+    alloc: Global,
+    core: PrimaryCore<J>,
+    start: Start,
+    setup: &Setup,
+) -> Option<bool>
+    requires book { start.opened.seen.book ≡ L.book }
+    requires schema { core.primary.schema ≡ L.schema }
+    requires workers { core.primary.workers ≡ L.workers }
+    requires first { core.primary ≡ L.first }
+    requires name { start.blank.name ≡ L.name }
+    requires parts { start.blank.parts ≡ L.parts }
+    requires seats { start.seats ≡ L.seats }
+{
+    let count = core.workers();
+    let Ok(line) = Line::<L, J, &R>::new(alloc, rt, core, start) else {
+        return None;
+    };
+    let seat = line.seat(rt)?;
+    let workers = WorkerCount::new(count);
+    let mut desk = JobDesk::new(rt, alloc, &line, setup, workers, seat);
+    is_true(alloc, &mut desk)
+}
+
+#[test]
+fn jobs_without_memory_are_told_the_truth(rt: HostRuntime) -> Result<(), Fail> {
+    let alloc = rt.alloc();
+    let setup = setup(alloc)?;
+    let journal = MemJournal::new(alloc);
+    let Ok(core) = PrimaryCore::start(alloc, journal, &setup.schema, WORKERS) else {
+        return Err("out of memory".into());
+    };
+    let start = Start::new(1).ok().ok_or("out of memory")?;
+    let told = is_true_on_line::<Brand, MemJournal, _>(&rt, alloc, core, start, &setup);
+    assert!(rt; told.ok_or("out of memory")?);
+    Ok(())
+}
