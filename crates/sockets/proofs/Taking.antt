@@ -5,7 +5,8 @@ use Rattle.std.proofs.Common.{List, [], ◌∷◌, ◌++◌, length, get_or, map
 use Rattle.std.specs.List.{AllZip}
 use Rattle.std.proofs.lemmas.Bool.{eqb-true, eqb-false}
 use Rattle.std.proofs.lemmas.List.Elements.{filter-append}
-use Rattle.std.proofs.lemmas.List.{get_or_default, take-append-drop, map-append, take_all, drop_all, nil_from_length, length-drop, length-map}
+use Rattle.std.proofs.lemmas.List.{get_or_default, take-append-drop, map-append, take_all, drop_all, nil_from_length}
+use Rattle.std.proofs.lemmas.List.{length-drop, length-map}
 use mathlib.Core.List.{IsPrefix}
 use Rattle.rows.specs.declared.commit.Commit.{Commit}
 use Rattle.rows.specs.Shape.{Shape}

@@ -22,6 +22,13 @@ returns-in-Failed g c = λ kept.
     let are = c.in-Failed.ensures in
     let new = c.take_each-taken.new.job_seat in
     let response = c.tell_fault-in-Failed.new.response in
+    let jobs = take are.0 c.deref-2.result.now in
     subst (λ (d : DeskState). (d.has_lost ≡ false)
-    × ((x : List JobAnswer) × TakesJobs workers shape d.job_seat new x × Tells x response)) c.self.view_is
-    (kept, (told, record { jobs = take are.0 c.deref-2.result.now; goes = are.1.0; kept = are.1.1; each = are.1.2 }, c.tell_fault-in-Failed.ensures told))
+    × ((x : List JobAnswer) × TakesJobs workers shape d.job_seat new x × Tells x response)) c.self.view_is (
+      kept,
+      (
+        told,
+        record { jobs = jobs; goes = are.1.0; kept = are.1.1; each = are.1.2 },
+        c.tell_fault-in-Failed.ensures told,
+      ),
+    )
