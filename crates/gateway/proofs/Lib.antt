@@ -1,3 +1,2 @@
 mod Seats
 mod Standing
-mod Telling

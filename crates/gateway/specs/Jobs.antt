@@ -15,7 +15,7 @@ use Rattle.sockets.specs.Answers.{IsJobAnswer}
 use Rattle.sockets.specs.JobSeats.{JobSeatState, GoesOn, outcomes}
 use Rattle.journal.specs.Recovery.{IsJournaled}
 use Rattle.service.specs.Denials.{denial_of, WithDenials}
-use Rattle.gateway.specs.Lines.{numbered_lines}
+use Rattle.requests.specs.AnswerLines.{numbered_lines}
 
 -- a request that has jobs
 abbrev pub IsJobs : Request (List ℕ) → Type 0

@@ -8,13 +8,13 @@ ghost use Rattle.gateway.specs.Jobs.{AnswersJobs, IsTicket, SettlesJobs, TakesJo
 
 use crate::answering::{answer, answer_later, answer_use_post};
 use crate::body::{BodyFault, jobs_of};
-use crate::lines::lines_of;
 use crate::taking::{Taken, take_each};
 use crate::worker_count::WorkerCount;
 use bytes::Bytes;
 use http::{Request, StatusCode};
 use http_server::{Response, Settle};
 use journal::{FileJournal, JournalStore};
+use requests::answer_lines_of;
 use script::Setup;
 use shared::{Line, Origin, Seat};
 use sockets::{JobAnswer, JobSeat, WorkersFault, are_of_workers};
@@ -150,7 +150,7 @@ fn tell(alloc: Global, told: &[JobAnswer], response: &mut Response)
     requires some { 0 < length told.now }
     ensures { Tells told.now response.new }
 {
-    let Ok(text) = lines_of(alloc, told) else {
+    let Ok(text) = answer_lines_of(alloc, told) else {
         answer_later(response, b"memory\n");
         return;
     };

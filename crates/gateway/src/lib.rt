@@ -10,14 +10,13 @@
 //! of the body's lines, which is tested.
 //!
 //! It uses `sockets` for jobs at a seat, `requests` to read them, and `http_server` for requests and
-//! answers; it has no socket. The definitions to review are `specs/Lines.antt` and `Jobs`.
+//! answers; it has no socket. The definitions to review are in `specs/Jobs.antt`.
 #![tactic(auto)]
 
 mod answering;
 mod body;
 mod job_desk;
 pub mod laws;
-mod lines;
 mod taking;
 mod worker_count;
 

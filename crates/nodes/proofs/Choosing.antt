@@ -1,7 +1,7 @@
 -- The jobs of one worker, and its answers, one after the other.
-use Rattle.std.proofs.Common.{◌≡◌, refl, ap, sym, ◌∙◌, subst, arith, ℕ, zero, suc, ◌+◌, ◌<◌, ◌≤◌, ◌==◌, if◌then◌else◌, Bool, true, false}
-use Rattle.std.proofs.Common.{List, [], ◌∷◌, length, take, drop, drop-cons, get_or, All, Some, slice_index_or}
-use Rattle.std.specs.List.{AllZip, filter}
+use Rattle.std.proofs.Common.{◌≡◌, refl, ap, sym, ◌∙◌, subst, arith, ℕ, zero, suc, ◌+◌, ◌<◌, ◌==◌, if◌then◌else◌, true}
+use Rattle.std.proofs.Common.{List, [], ◌∷◌, length, take, drop, drop-cons, get_or, All}
+use Rattle.std.specs.List.{AllZip}
 use Rattle.std.proofs.lemmas.List.{get_or-take}
 use Rattle.std.proofs.lemmas.Bool.{eq-eqb, ne_eqb}
 use Rattle.std.proofs.Math.Numerals.{suc-eq-add-one}

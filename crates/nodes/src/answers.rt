@@ -5,14 +5,15 @@ ghost use Rattle.std.specs.Io.KnownBytes.{Appends};
 ghost use Rattle.std.specs.List.{AllZip};
 ghost use Rattle.rows.specs.Shape.{shape_of};
 ghost use Rattle.sockets.specs.Answers.{IsJobAnswer};
-ghost use Rattle.nodes.specs.Lines.{answer_line, answer_lines, numbered_lines, refused_line, number_of};
+ghost use Rattle.requests.specs.AnswerLines.{answer_line, numbered_lines, refused_line};
+ghost use Rattle.nodes.specs.Lines.{answer_lines, number_of};
 
 use crate::faults::NodeFault;
 use crate::printing::print;
 use crate::waiting::Place;
-use rows::append_number;
+use requests::push_answer_line;
 use shared::Origin;
-use sockets::{Job, JobAnswer, Worker};
+use sockets::{Job, JobAnswer, Refusal, Worker};
 use std::alloc::{AllocError, Global};
 use std::io::Write;
 
@@ -30,21 +31,7 @@ pub fn push_answer<L: Origin>(
     requires { IsJobAnswer (shape_of L.schema) 0 worker.now.seat.list job.now answer }
     ensures { OnOk result (text.new.items ≡ text.old.items ++ answer_line number answer) }
 {
-    text.extend_from_slice(b"job ")?;
-    append_number(text, number)?;
-    match answer {
-        JobAnswer::Ticket(commit) => {
-            text.extend_from_slice(b" ticket ")?;
-            append_number(text, commit)?;
-        }
-        JobAnswer::Conflict(commit) => {
-            text.extend_from_slice(b" conflict ")?;
-            append_number(text, commit)?;
-        }
-        JobAnswer::Refused(_) => text.extend_from_slice(b" refused")?,
-    }
-    text.push(b'\n')?;
-    Ok(())
+    push_answer_line(text, number, answer)
 }
 
 /// Writes the lines of what the first of these jobs are answered, in their order: as many as the worker has
@@ -123,8 +110,6 @@ fn unread_line(alloc: Global, number: u64) -> Result<Vec<u8>, AllocError>
     ensures { IfOk result (λ line. line.items ≡ refused_line number) }
 {
     let mut line = Vec::new(alloc);
-    line.extend_from_slice(b"job ")?;
-    append_number(&mut line, number)?;
-    line.extend_from_slice(b" refused\n")?;
+    push_answer_line(&mut line, number, JobAnswer::Refused(Refusal::Unread))?;
     Ok(line)
 }

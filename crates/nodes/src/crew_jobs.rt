@@ -9,7 +9,7 @@ ghost use Rattle.sockets.specs.Answers.{IsJobAnswer};
 ghost use Rattle.sockets.specs.Crews.{AreAnswered};
 ghost use Rattle.sockets.specs.Work.{jobs_of};
 ghost use Rattle.sockets.specs.declared.job_answer.JobAnswer.{JobAnswer};
-ghost use Rattle.nodes.specs.Lines.{numbered_lines};
+ghost use Rattle.requests.specs.AnswerLines.{numbered_lines};
 ghost use Rattle.nodes.specs.Inner.Crews.{AreFirst};
 
 use crate::answers::{push_answer, tell_all};

@@ -3,3 +3,4 @@ mod FirstWords
 mod Handing
 mod Taking
 mod Reading
+pub mod Telling

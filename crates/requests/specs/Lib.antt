@@ -5,6 +5,7 @@ pub mod Dialects
 pub mod JobLines
 pub mod Requests
 pub mod Readers
+pub mod AnswerLines
 pub mod QueryLines
 pub mod Batches
 pub mod Inner

@@ -1,9 +1,10 @@
-//! Jobs and batches of queries, read line by line.
+//! Jobs and batches of queries, read line by line, and the lines that answer jobs.
 //!
 //! `Lines` cuts the bytes of any reader into lines. `read_job_line` reads one line of jobs.
 //! `JobReader` makes whole jobs of such lines, and looks between them; `BatchReader` makes batches of
 //! queries. Both say on which line each thing began, and on which line a fault stands and why: the
-//! texts of a `LineFault` are those that docs/FORMATS.md lists. The crate knows nothing of the program
+//! texts of a `LineFault` are those that docs/FORMATS.md lists. `push_answer_line` makes the line of what
+//! a job is answered, and `answer_lines_of` those of several. The crate knows nothing of the program
 //! that prints them.
 //!
 //! A line that does not read is looked at once more, for the word at which it does not: its `Misread`. This
@@ -21,10 +22,12 @@
 //! is there; a batch has 1 to 64 queries. How lines come together as jobs and batches is tested.
 //!
 //! It uses `script` for the words of a line, and `bytes` for what was read. `specs/Lines.antt` defines
-//! what a call takes of the input, `JobLines.antt` and `QueryLines.antt` what a line says. If a call fails
+//! what a call takes of the input, `JobLines.antt` and `QueryLines.antt` what a line says, and
+//! `AnswerLines.antt` the line of an answer. If a call fails
 //! for lack of memory, its value is unchanged unless the call says otherwise.
 #![tactic(auto)]
 
+mod answer_lines;
 mod batch_assembly;
 mod batch_reader;
 mod dialect;
@@ -45,6 +48,7 @@ mod shown_words;
 mod word;
 mod word_fault;
 
+pub use answer_lines::{answer_lines_of, push_answer_line};
 pub use batch_assembly::{BATCH_QUERIES_MAX, Query};
 pub use batch_reader::{BatchReader, Batched};
 pub use dialect::Dialect;

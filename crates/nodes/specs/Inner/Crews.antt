@@ -1,5 +1,5 @@
 -- What answers of a crew's workers are told rest on.
-use Rattle.std.specs.Prelude.{◌≡◌, ℕ, ◌<◌, List, length, take, slice_index_or}
+use Rattle.std.specs.Prelude.{ℕ, ◌<◌, List, length, take, slice_index_or}
 use Rattle.std.specs.List.{AllZip}
 use Rattle.rows.specs.Shape.{Shape}
 use Rattle.sockets.specs.declared.job.Job.{Job}

@@ -1,13 +1,13 @@
 -- Each answer is that of the job beside it.
-use Rattle.std.proofs.Common.{◌≡◌, ap, sym, ◌∙◌, subst, arith, length, take, OnOk}
+use Rattle.std.proofs.Common.{◌≡◌, ap, sym, ◌∙◌, subst, arith, take, OnOk}
 use Rattle.std.specs.Io.KnownBytes.{Appends}
 use Rattle.std.proofs.lemmas.List.{take_all}
 use Rattle.rows.specs.Shape.{shape_of}
 use Rattle.sockets.specs.declared.job_answer.JobAnswer.TheVariants.{Ticket}
 use Rattle.sockets.specs.Answers.{IsJobAnswer}
-use Rattle.nodes.specs.Lines.{numbered_lines}
+use Rattle.requests.specs.AnswerLines.{numbered_lines}
 use Rattle.nodes.proofs.Choosing.{zip-at, zip-long}
-use Rattle.nodes.proofs.Telling.{numbered-next}
+use Rattle.requests.proofs.Telling.{numbered-next}
 use Rattle.nodes.proofs.answers.tell_all.Goals as goal
 
 pub bounds-jobs-index : goal.bounds-jobs-index

@@ -1,6 +1,6 @@
 -- The text has the lines of the answers so far.
 use Rattle.std.proofs.Common.{◌≡◌, take}
-use Rattle.nodes.specs.Lines.{numbered_lines}
+use Rattle.requests.specs.AnswerLines.{numbered_lines}
 use Rattle.nodes.proofs.answers.tell_all.Given as goal
 
 abbrev pub invariant-loop-index : goal.invariant-loop-index

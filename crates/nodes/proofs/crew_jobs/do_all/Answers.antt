@@ -1,11 +1,11 @@
 -- All answers are those that the crew gives, and the first worker's seat has seen what they rest on.
-use Rattle.std.proofs.Common.{◌≡◌, ◌<◌, [], sym, ap, subst, arith, length}
+use Rattle.std.proofs.Common.{◌<◌, [], sym, subst, arith, length}
 use Rattle.std.specs.Io.KnownBytes.{Appends}
 use Rattle.std.specs.List.{AllZip}
 use Rattle.rows.specs.Shape.{shape_of}
 use Rattle.sockets.specs.Answers.{IsJobAnswer}
 use Rattle.sockets.specs.Crews.{first_list}
-use Rattle.nodes.specs.Lines.{numbered_lines}
+use Rattle.requests.specs.AnswerLines.{numbered_lines}
 use Rattle.nodes.proofs.Crews.{ok-on, all-begin, answered-first, by-first}
 use Rattle.nodes.proofs.crew_jobs.do_all.Goals as goal
 

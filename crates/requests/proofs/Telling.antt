@@ -4,7 +4,7 @@ use Rattle.std.proofs.lemmas.List.{append-nil, append_assoc, length-take-le}
 use Rattle.std.proofs.Math.Seq.{take-suc}
 use Rattle.std.proofs.Math.Numerals.{suc-eq-add-one}
 use Rattle.sockets.specs.declared.job_answer.JobAnswer.{JobAnswer}
-use Rattle.gateway.specs.Lines.{answer_line, numbered_lines}
+use Rattle.requests.specs.AnswerLines.{answer_line, numbered_lines}
 
 -- one line more, behind those of numbers that count from one on
 pub numbered-more : (first : ℕ) (answers : List JobAnswer) (answer : JobAnswer)
