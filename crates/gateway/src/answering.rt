@@ -4,25 +4,51 @@ ghost use Rattle.std.specs.Prelude.{◌≡◌, codes, OnOk};
 ghost use Rattle.http_server.specs.Response.{IsBlank};
 ghost use Rattle.gateway.specs.Inner.Answering.{IsAnswered};
 
-use bytes::BufMut;
-use http::header::{ALLOW, CACHE_CONTROL, CONTENT_TYPE, RETRY_AFTER};
-use http::{HeaderName, HeaderValue, StatusCode};
+use bytes::{BufMut, Bytes};
+use http::header::{ACCEPT, ALLOW, CACHE_CONTROL, CONTENT_TYPE, RETRY_AFTER};
+use http::{HeaderName, HeaderValue, Request, StatusCode};
 use http_server::Response;
 use std::alloc::AllocError;
 
-/// The kind of a text.
+/// The kinds of texts.
 const PLAIN: &str = "text/plain; charset=us-ascii";
+
+const JSON: &str = "application/json";
 
 /// Answers with this status and this text; or 503 without one, out of memory.
 pub(crate) fn answer(response: &mut Response, status: StatusCode, text: &[u8])
     requires { IsBlank response.old }
     ensures { IsAnswered status text.now response.new }
 {
-    if fill(response, status, text).is_ok() {
+    if fill(response, status, text, HeaderValue::from_static(PLAIN)).is_ok() {
         return;
     }
     response.clear();
     response.status = StatusCode::SERVICE_UNAVAILABLE;
+}
+
+/// Answers with a text of JSON; or 503 without one, out of memory.
+pub(crate) fn answer_json(response: &mut Response, text: &[u8])
+    requires { IsBlank response.old }
+    ensures { IsAnswered 200 text.now response.new }
+{
+    let kind = HeaderValue::from_static(JSON);
+    if fill(response, StatusCode::OK, text, kind).is_ok() {
+        return;
+    }
+    response.clear();
+    response.status = StatusCode::SERVICE_UNAVAILABLE;
+}
+
+/// Whether a client wants JSON: its `Accept` names it.
+pub(crate) fn wants_json(request: &Request<Bytes>) -> bool {
+    match request.headers().get(ACCEPT) {
+        Some(value) => value
+            .as_bytes()
+            .windows(JSON.len())
+            .any(|part| part == JSON.as_bytes()),
+        None => false,
+    }
 }
 
 /// Answers as `answer` does, with one field more.
@@ -36,11 +62,27 @@ pub(crate) fn answer_with(
     requires { IsBlank response.old }
     ensures { IsAnswered status text.now response.new }
 {
-    if fill(response, status, text).is_ok() && response.add_header(name, value).is_ok() {
+    if fill(response, status, text, HeaderValue::from_static(PLAIN)).is_ok()
+        && response.add_header(name, value).is_ok()
+    {
         return;
     }
     response.clear();
     response.status = StatusCode::SERVICE_UNAVAILABLE;
+}
+
+/// Answers that this path takes GET alone.
+pub(crate) fn answer_use_get(response: &mut Response)
+    requires { IsBlank response.old }
+    ensures { IsAnswered 405 (codes "use GET\n") response.new }
+{
+    answer_with(
+        response,
+        StatusCode::METHOD_NOT_ALLOWED,
+        b"use GET\n",
+        ALLOW,
+        HeaderValue::from_static("GET, HEAD"),
+    );
 }
 
 /// Answers that this path takes POST alone.
@@ -72,12 +114,17 @@ pub(crate) fn answer_later(response: &mut Response, text: &[u8])
 }
 
 /// Gives an answer a status, a text, and the fields that each has.
-fn fill(response: &mut Response, status: StatusCode, text: &[u8]) -> Result<(), AllocError>
+fn fill(
+    response: &mut Response,
+    status: StatusCode,
+    text: &[u8],
+    kind: HeaderValue,
+) -> Result<(), AllocError>
     requires { IsBlank response.old }
     ensures { OnOk result ((response.new.status ≡ status) × (response.new.body.items ≡ text.now)) }
 {
     response.status = status;
     response.body.put_slice(text)?;
     response.add_header(CACHE_CONTROL, HeaderValue::from_static("no-store"))?;
-    response.add_header(CONTENT_TYPE, HeaderValue::from_static(PLAIN))
+    response.add_header(CONTENT_TYPE, kind)
 }

@@ -6,8 +6,10 @@ ghost use Rattle.rows.specs.Shape.{shape_of};
 ghost use Rattle.sockets.specs.declared.job_answer.JobAnswer.{JobAnswer as Answer};
 ghost use Rattle.gateway.specs.Jobs.{AnswersJobs, IsTicket, SettlesJobs, TakesJobs, Tells};
 
-use crate::answering::{answer, answer_later, answer_use_post};
+use crate::answering::{answer, answer_later, answer_use_get, answer_use_post, wants_json};
 use crate::body::{BodyFault, jobs_of};
+use crate::row_path::{RowPath, row_path_of};
+use crate::row_reading::tell_row;
 use crate::taking::{Taken, take_each};
 use crate::worker_count::WorkerCount;
 use bytes::Bytes;
@@ -33,6 +35,8 @@ pub struct JobDesk<'a, L: Origin, J: JournalStore + Drop, H: Wait + Drop, T: Wai
     setup: &'a Setup,
     workers: WorkerCount<L>,
     job_seat: JobSeat<L>,
+    /// At which rows are read.
+    looking: Seat<L>,
     /// Whether a fault took back what requests of this round were told. Nothing of it is sent then.
     has_lost: bool,
 }
@@ -47,7 +51,8 @@ impl<'a, L: Origin, J: JournalStore + Drop, H: Wait + Drop, T: Wait> Model
 }
 
 impl<'a, L: Origin, J: JournalStore + Drop, H: Wait + Drop, T: Wait> JobDesk<'a, L, J, H, T> {
-    /// At a seat of this line, which has these workers, and opened tables of this setup. Takes no memory.
+    /// At two seats of this line, which has these workers, and opened tables of this setup: at the first jobs
+    /// are taken, at the other rows are read. Takes no memory.
     pub fn new(
         rt: &'a T,
         alloc: Global,
@@ -55,6 +60,7 @@ impl<'a, L: Origin, J: JournalStore + Drop, H: Wait + Drop, T: Wait> JobDesk<'a,
         setup: &'a Setup,
         workers: WorkerCount<L>,
         seat: Seat<L>,
+        looking: Seat<L>,
     ) -> JobDesk<'a, L, J, H, T>
         ensures { result ≡ record { job_seat = record { seat = seat; answers = []; pending = [] }; has_lost = false } }
     {
@@ -65,6 +71,7 @@ impl<'a, L: Origin, J: JournalStore + Drop, H: Wait + Drop, T: Wait> JobDesk<'a,
             setup,
             workers,
             job_seat: JobSeat::new(alloc, seat),
+            looking,
             has_lost: false,
         }
     }
@@ -74,12 +81,17 @@ impl<'a, L: Origin, J: JournalStore + Drop, H: Wait + Drop, T: Wait> JobDesk<'a,
     /// `POST /jobs` takes the jobs of the body, in their order: 200 with a line for each if all have
     /// tickets, 409 with these lines if one has none; 400 and nothing is done if the body does not read
     /// or has no job; 503 if memory was refused, and 500 if the journal failed: jobs may then be done.
+    ///
+    /// `GET /tables/NAME/ROW` answers the row at the newest durable version that is published, as a text or,
+    /// if `Accept` names it, as JSON; 404 if there is no such table or row. Any other path is answered 404,
+    /// another method 405.
     pub fn take(&mut self, request: &Request<Bytes>, response: &mut Response)
         requires { IsBlank response.old }
         ensures { AnswersJobs L.workers (shape_of L.schema) self.old request.now response.new self.new }
     {
-        if request.uri().path() != "/jobs" {
-            tell_no_path(response);
+        let path = request.uri().path();
+        if path != "/jobs" {
+            self.tell_path(path, request, response);
             return;
         }
         if request.method().as_str() != "POST" {
@@ -87,6 +99,33 @@ impl<'a, L: Origin, J: JournalStore + Drop, H: Wait + Drop, T: Wait> JobDesk<'a,
             return;
         }
         self.take_jobs(request.body().as_slice(), response);
+    }
+
+    /// Answers a request for another path than that of jobs.
+    fn tell_path(&mut self, path: &str, request: &Request<Bytes>, response: &mut Response)
+        requires { IsBlank response.old }
+        ensures { self.new ≡ self.old }
+    {
+        match row_path_of(&self.setup.schema, path) {
+            RowPath::Row(place) => {
+                let method = request.method().as_str();
+                if method == "GET" || method == "HEAD" {
+                    let as_json = wants_json(request);
+                    tell_row(
+                        self.alloc,
+                        &mut self.looking,
+                        &self.setup.schema,
+                        place,
+                        as_json,
+                        response,
+                    );
+                } else {
+                    answer_use_get(response);
+                }
+            }
+            RowPath::NoTable => answer(response, StatusCode::NOT_FOUND, b"no such table\n"),
+            RowPath::None => answer(response, StatusCode::NOT_FOUND, b"no such path\n"),
+        }
     }
 
     /// Takes the jobs of a body.
@@ -174,14 +213,6 @@ fn is_ticket(answer: &JobAnswer) -> bool
     ensures { result ≡ true → IsTicket answer.now }
 {
     matches!(answer, JobAnswer::Ticket(_))
-}
-
-/// Tells that there is nothing at a path.
-fn tell_no_path(response: &mut Response)
-    requires { IsBlank response.old }
-    ensures { (told : List Answer) → Tells told response.new }
-{
-    answer(response, StatusCode::NOT_FOUND, b"no such path\n");
 }
 
 /// Tells that a path takes POST alone.

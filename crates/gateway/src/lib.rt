@@ -1,13 +1,14 @@
 //! What a primary answers to requests over HTTP.
 //!
 //! A `JobDesk` is a `Settle` of `http_server`: it takes the jobs of a request's body at a seat of a line,
-//! and makes them durable together with those of the other requests of its round.
+//! and makes them durable together with those of the other requests of its round. It reads rows at
+//! another seat, as they are durable.
 //!
 //! Promised: a request with jobs is answered 200 only with a ticket for each of its jobs, and what is
 //! answered is the lines of what the jobs are answered. Once the round that it is in has settled, each of
 //! these tickets names a commit that stands in the list that the seat has seen, with the job's worker and
 //! the entries that its steps make (`laws::what_is_told_stands`). Not promised: that the jobs are those
-//! of the body's lines, which is tested.
+//! of the body's lines, and what is told of a row; both are tested.
 //!
 //! It uses `sockets` for jobs at a seat, `requests` to read them, and `http_server` for requests and
 //! answers; it has no socket. The definitions to review are in `specs/Jobs.antt`.
@@ -17,6 +18,8 @@ mod answering;
 mod body;
 mod job_desk;
 pub mod laws;
+mod row_path;
+mod row_reading;
 mod taking;
 mod worker_count;
 

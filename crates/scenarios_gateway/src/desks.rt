@@ -105,8 +105,9 @@ pub fn all_go_so<L: Origin, J: JournalStore + Drop, R: Wait>(
         return None;
     };
     let seat = line.seat(rt)?;
+    let looking = line.seat(rt)?;
     let workers = WorkerCount::new(count);
-    let mut desk = JobDesk::new(rt, alloc, &line, setup, workers, seat);
+    let mut desk = JobDesk::new(rt, alloc, &line, setup, workers, seat, looking);
     for round in rounds {
         if !goes_so(alloc, &mut desk, round)? {
             return Some(false);

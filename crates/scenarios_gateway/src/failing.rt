@@ -97,7 +97,7 @@ fn go_so<R: Wait>(rt: &R, alloc: Global, rounds: &[Round]) -> Result<bool, Fail>
         Err((_, StartFault::Memory)) => return Err("out of memory".into()),
         Err(_) => return Err("not started".into()),
     };
-    let start = Start::new(1).ok().ok_or("start")?;
+    let start = Start::new(2).ok().ok_or("start")?;
     Ok(all_go_so::<Brand, FailingJournal, _>(rt, alloc, core, start, &setup, rounds).ok_or(
         "no desk",
     )?)

@@ -68,8 +68,9 @@ fn is_true_on_line<L: Origin, J: JournalStore + Drop, R: Wait>(
         return None;
     };
     let seat = line.seat(rt)?;
+    let looking = line.seat(rt)?;
     let workers = WorkerCount::new(count);
-    let mut desk = JobDesk::new(rt, alloc, &line, setup, workers, seat);
+    let mut desk = JobDesk::new(rt, alloc, &line, setup, workers, seat, looking);
     is_true(alloc, &mut desk)
 }
 
@@ -81,7 +82,7 @@ fn jobs_without_memory_are_told_the_truth(rt: HostRuntime) -> Result<(), Fail> {
     let Ok(core) = PrimaryCore::start(alloc, journal, &setup.schema, WORKERS) else {
         return Err("out of memory".into());
     };
-    let start = Start::new(1).ok().ok_or("out of memory")?;
+    let start = Start::new(2).ok().ok_or("out of memory")?;
     let told = is_true_on_line::<Brand, MemJournal, _>(&rt, alloc, core, start, &setup);
     assert!(rt; told.ok_or("out of memory")?);
     Ok(())

@@ -92,6 +92,41 @@ const ONE_BY_ONE: [Round; 12] = [
     (
         &[
             ("GET", "/jobs", b"", 405, b"use POST\n"),
+            (
+                "GET",
+                "/tables/acct/1",
+                b"",
+                200,
+                b"version 5\nacct 1 70 1\n",
+            ),
+            (
+                "HEAD",
+                "/tables/acct/2",
+                b"",
+                200,
+                b"version 5\nacct 2 35 2\n",
+            ),
+            ("POST", "/tables/acct/1", b"", 405, b"use GET\n"),
+            ("GET", "/tables/acct/9", b"", 404, b"missing\n"),
+            (
+                "GET",
+                "/tables/acct/18446744073709551615",
+                b"",
+                404,
+                b"missing\n",
+            ),
+            (
+                "GET",
+                "/tables/acct/18446744073709551616",
+                b"",
+                404,
+                b"no such path\n",
+            ),
+            ("GET", "/tables/acct/01", b"", 404, b"no such path\n"),
+            ("GET", "/tables/acct/", b"", 404, b"no such path\n"),
+            ("GET", "/tables/acct/1/2", b"", 404, b"no such path\n"),
+            ("GET", "/tables/none/1", b"", 404, b"no such table\n"),
+            ("GET", "/tables", b"", 404, b"no such path\n"),
             ("GET", "/job", b"", 404, b"no such path\n"),
             ("POST", "/jobs/", b"", 404, b"no such path\n"),
         ],
@@ -189,7 +224,7 @@ fn go_so<R: Wait>(rt: &R, alloc: Global, rounds: &[Round]) -> Result<bool, Fail>
         Err((_, StartFault::Memory)) => return Err("out of memory".into()),
         Err(_) => return Err("not started".into()),
     };
-    let start = Start::new(1).ok().ok_or("start")?;
+    let start = Start::new(2).ok().ok_or("start")?;
     Ok(all_go_so::<Brand, MemJournal, _>(rt, alloc, core, start, &setup, rounds).ok_or("no desk")?)
 }
 
