@@ -1,2 +1,3 @@
 mod Seats
 mod Standing
+mod Turns

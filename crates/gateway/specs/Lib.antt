@@ -1,2 +1,3 @@
 pub mod Jobs
+pub mod Serving
 pub mod Inner

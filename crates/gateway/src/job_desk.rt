@@ -76,6 +76,18 @@ impl<'a, L: Origin, J: JournalStore + Drop, H: Wait + Drop, T: Wait> JobDesk<'a,
         }
     }
 
+    /// Its seats: that at which jobs were taken, and that at which rows were read. Takes no memory.
+    pub fn into_seats(self) -> (Seat<L>, Seat<L>)
+        ensures { result.0 ≡ self.entry.job_seat.seat }
+    {
+        let JobDesk {
+            job_seat,
+            looking,
+            ..
+        } = self;
+        (job_seat.into_seat(), looking)
+    }
+
     /// Answers a request. What it tells of jobs stands only once the round has settled. It may wait.
     ///
     /// `POST /jobs` takes the jobs of the body, in their order: 200 with a line for each if all have

@@ -10,8 +10,10 @@
 //! the entries that its steps make (`laws::what_is_told_stands`). Not promised: that the jobs are those
 //! of the body's lines, and what is told of a row; both are tested.
 //!
-//! It uses `sockets` for jobs at a seat, `requests` to read them, and `http_server` for requests and
-//! answers; it has no socket. The definitions to review are in `specs/Jobs.antt`.
+//! `serve_jobs` serves the clients of a `Listening` so, in one thread, until it is over.
+//!
+//! It uses `sockets` for jobs at a seat, `requests` to read them, `http_server` for requests and answers,
+//! and `service` for connections. The definitions to review are `specs/Jobs.antt` and `Serving`.
 #![tactic(auto)]
 
 mod answering;
@@ -20,8 +22,10 @@ mod job_desk;
 pub mod laws;
 mod row_path;
 mod row_reading;
+mod serving;
 mod taking;
 mod worker_count;
 
 pub use job_desk::JobDesk;
+pub use serving::{Listening, ServingFault, serve_jobs};
 pub use worker_count::WorkerCount;

@@ -1,6 +1,6 @@
 //! A listener and its connections, served by one thread in rounds.
 
-ghost use Rattle.std.specs.Prelude.{◌≡◌, MatchResult};
+ghost use Rattle.std.specs.Prelude.{◌≡◌, IfOk, MatchResult};
 ghost use Rattle.service.specs.Denials.{WithDenials};
 ghost use Rattle.service.specs.Places.{service_of};
 
@@ -64,20 +64,47 @@ impl<S: Settle + Drop> House<S> {
         address: SocketAddr,
         limits: Limits,
         service: S,
-    ) -> io::Result<House<S>> {
-        let mut listener = TcpListener::bind(net, address)?;
-        let poll = Poll::new(net)?;
-        let events = Events::with_capacity(alloc, EVENTS_MAX)?;
-        poll.registry()
-            .register(&mut listener, Token(LISTENER), Interest::READABLE)?;
+    ) -> io::Result<House<S>>
+        ensures { IfOk result (λ house. served_by house ≡ service) }
+    {
+        let listener = TcpListener::bind(net, address)?;
+        match House::on(net, alloc, keys, listener, limits, service) {
+            Ok(house) => Ok(house),
+            Err((error, _)) => Err(error),
+        }
+    }
+
+    /// The same at a listener that is bound already. If it fails, the service is handed back.
+    pub fn on<N: Net + Clock>(
+        net: &N,
+        alloc: Global,
+        keys: RandomState,
+        mut listener: TcpListener,
+        limits: Limits,
+        service: S,
+    ) -> Result<House<S>, (io::Error, S)>
+        ensures { MatchResult result (λ house. served_by house ≡ service) (λ back. back.1 ≡ service) }
+    {
+        let (poll, events, opened) = match readiness_of(net, alloc, &mut listener) {
+            Ok(readiness) => readiness,
+            Err(error) => return Err((error, service)),
+        };
         Ok(House {
             listener,
             poll,
             events,
-            opened: Instant::now(net)?,
+            opened,
             may_have_more: false,
             rounds: Rounds::new(alloc, keys, limits, service),
         })
+    }
+
+    /// The service; the connections are dropped. Takes no memory.
+    pub fn into_service(self) -> S
+        ensures { result ≡ served_by self }
+    {
+        let House { rounds, .. } = self;
+        rounds.into_service()
     }
 
     /// The address at which it listens.
@@ -169,6 +196,19 @@ impl<S: Settle + Drop> House<S> {
             self.rounds.seat(place, socket, now);
         }
     }
+}
+
+/// What tells when a listener has a connection, and the time from which on a house counts.
+fn readiness_of<N: Net + Clock>(
+    net: &N,
+    alloc: Global,
+    listener: &mut TcpListener,
+) -> io::Result<(Poll, Events, Instant)> {
+    let poll = Poll::new(net)?;
+    let events = Events::with_capacity(alloc, EVENTS_MAX)?;
+    poll.registry()
+        .register(listener, Token(LISTENER), Interest::READABLE)?;
+    Ok((poll, events, Instant::now(net)?))
 }
 
 /// Notes which connections may be read or written. Whether a new one has come.

@@ -172,6 +172,15 @@ impl<S: Settle + Drop, T: Socket + Drop> Rounds<S, T> {
         &self.held.inner
     }
 
+    /// The service; the connections are dropped. Takes no memory.
+    pub fn into_service(self) -> S
+        ensures { result ≡ service_of self }
+    {
+        let Rounds { held, .. } = self;
+        let Held { inner, .. } = held;
+        inner
+    }
+
     /// How many connections there are.
     pub fn connections(&self) -> usize {
         let mut count: usize = 0;

@@ -1,0 +1,10 @@
+-- One turn more.
+use Rattle.rows.specs.Shape.{shape_of}
+use Rattle.service.specs.Houses.{served_by}
+use Rattle.gateway.proofs.Turns.{serves-more}
+use Rattle.gateway.proofs.serving.serve_on.Goals as goal
+
+pub loop-preserved : goal.loop-preserved
+loop-preserved g c =
+    serves-more g.L.Line.workers (shape_of g.L.Line.schema) (served_by c.args.house.now) (served_by c.loop.house) (served_by c.turn.new.self)
+    c.loop.invariant c.in-Ok.ensures
