@@ -6,5 +6,7 @@ use Rattle.gateway.proofs.serving.serve_on.Goals as goal
 
 pub loop-preserved : goal.loop-preserved
 loop-preserved g c =
-    serves-more g.L.Line.workers (shape_of g.L.Line.schema) (served_by c.args.house.now) (served_by c.loop.house) (served_by c.turn.new.self)
-    c.loop.invariant c.in-Ok.ensures
+    let workers = g.L.Line.workers in
+    let shape = shape_of g.L.Line.schema in
+    serves-more workers shape (served_by c.args.house.now) (served_by c.loop.house) (served_by c.turn.new.self) c.loop.invariant
+    c.in-Ok.ensures
