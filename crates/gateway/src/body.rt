@@ -38,37 +38,25 @@ pub(crate) fn jobs_of(alloc: Global, setup: &Setup, body: &[u8]) -> Result<Vec<J
                 }
             }
             Ok(Requested::Request(Request::Get { line, .. })) => {
-                return Err(unread(alloc, line, LineFault::NoJobLine));
+                let why = LineFault::NoJobLine;
+                return Err(unread(format!(in alloc; "line {line}: {why}\n").ok()));
             }
             Ok(Requested::NotYet) => {}
             Ok(Requested::End) => break,
             Err(RequestFault::Memory) => return Err(BodyFault::Memory),
-            Err(fault) => {
-                return Err(match format!(in alloc; "{fault}\n") {
-                    Ok(text) => BodyFault::Unread(text),
-                    Err(_) => BodyFault::Memory,
-                });
-            }
+            Err(fault) => return Err(unread(format!(in alloc; "{fault}\n").ok())),
         }
     }
     if jobs.is_empty() {
-        return Err(none(alloc));
+        return Err(unread(format!(in alloc; "line 1: no job\n").ok()));
     }
     Ok(jobs)
 }
 
-/// The fault of a line that stands in no body.
-fn unread(alloc: Global, line: u64, why: LineFault) -> BodyFault {
-    match format!(in alloc; "line {line}: {why}\n") {
-        Ok(text) => BodyFault::Unread(text),
-        Err(_) => BodyFault::Memory,
-    }
-}
-
-/// The fault of a body without a job.
-fn none(alloc: Global) -> BodyFault {
-    match format!(in alloc; "line 1: no job\n") {
-        Ok(text) => BodyFault::Unread(text),
-        Err(_) => BodyFault::Memory,
+/// The fault of a body that does not read, with this text, for which there may be no memory.
+fn unread(text: Option<String>) -> BodyFault {
+    match text {
+        Some(text) => BodyFault::Unread(text),
+        None => BodyFault::Memory,
     }
 }
