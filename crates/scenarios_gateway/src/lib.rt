@@ -9,5 +9,3 @@ mod failing;
 mod failures;
 #[cfg(test)]
 mod jobs;
-#[cfg(test)]
-mod served;
