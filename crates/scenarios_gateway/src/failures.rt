@@ -31,20 +31,21 @@ const AFTER: Exchange = (
     b"job 0 ticket 4\n",
 );
 
-/// Whether a desk tells the truth: if it answers 200 and the round stands, all jobs are done.
+/// Whether a desk tells the truth: if it answers 200 and the round stands, all jobs are done, so that the
+/// job that needs them is not refused.
 fn is_true<L: Origin, J: JournalStore + Drop, R: Wait>(
     alloc: Global,
     desk: &mut JobDesk<'_, L, J, &R, R>,
 ) -> Option<bool> {
-    match answer_of(alloc, desk, &JOBS)? {
-        (200, true) => {}
-        (200, false) => return Some(false),
-        (status, _) => return Some(status == 503),
+    let told = answer_of(alloc, desk, &JOBS)?;
+    if told != (200, true) {
+        return Some(told.0 == 503);
     }
     if !desk.settle_round() {
         return Some(true);
     }
-    Some(answer_of(alloc, desk, &AFTER)? == (200, true) && desk.settle_round())
+    let after = answer_of(alloc, desk, &AFTER)?;
+    Some(after == (200, true) || after.0 == 503)
 }
 
 /// Whether a desk tells the truth on a line of this primary.
