@@ -27,10 +27,12 @@ IsTicket (answers.Ticket number) = Unit {0}
 IsTicket (answers.Conflict number) = ⊥
 IsTicket (answers.Refused refusal) = ⊥
 
--- what is told of jobs that are answered so: with status 200 or 409 their lines, and with 200 there is one at least, and each has a ticket
+-- what is told of jobs that are answered so: with status 200 or 409 their lines, and with 200 there is one at least, and each has a
+-- ticket; with status 400 no job was taken
 pub record Tells (told : List JobAnswer) (response : Response) : Type 0 where
   pub all : response.status ≡ 200 → (0 < length told) × All IsTicket told × (response.body.items ≡ numbered_lines 0 told)
   pub some : response.status ≡ 409 → response.body.items ≡ numbered_lines 0 told
+  pub none : response.status ≡ 400 → told ≡ []
 
 -- jobs were taken at a seat, each of which is answered so
 pub record TakesJobs (workers : ℕ) (shape : Shape) (old new : JobSeatState) (told : List JobAnswer) : Type 0 where

@@ -238,7 +238,7 @@ fn tell_no_post(response: &mut Response)
 /// Tells that a body has no jobs that can be done.
 fn tell_unread(fault: BodyFault, response: &mut Response)
     requires { IsBlank response.old }
-    ensures { (told : List Answer) → Tells told response.new }
+    ensures { Tells [] response.new }
 {
     match fault {
         BodyFault::Unread(text) => answer(response, StatusCode::BAD_REQUEST, text.as_bytes()),

@@ -7,13 +7,11 @@ use crate::row_path::RowPlace;
 use http::StatusCode;
 use http_server::Response;
 use mvcc::TxFault;
+use rows::limits::COLUMNS_MAX;
 use rows::{Schema, Value, append_number, append_value};
 use shared::{LineFault, Origin, Seat};
 use sockets::{begun, looked};
 use std::alloc::{AllocError, Global};
-
-/// How many columns a table has at most.
-const COLUMNS_MAX: usize = 16;
 
 /// What was found of a row.
 #[derive(Drop)]

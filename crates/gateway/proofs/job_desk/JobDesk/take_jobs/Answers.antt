@@ -8,7 +8,7 @@ use Rattle.gateway.proofs.job_desk.JobDesk.take_jobs.Goals as goal
 
 pub returns-in-Err : goal.returns-in-Err
 returns-in-Err g c = λ kept.
-    (kept, ([], takes-none g.L.Line.workers (shape_of g.L.Line.schema) c.args.self.now.job_seat, c.tell_unread.ensures []))
+    (kept, ([], takes-none g.L.Line.workers (shape_of g.L.Line.schema) c.args.self.now.job_seat, c.tell_unread.ensures))
 
 pub returns-then-not-are_of_workers : goal.returns-then-not-are_of_workers
 returns-then-not-are_of_workers g c = λ kept.
