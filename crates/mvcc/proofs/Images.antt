@@ -1,8 +1,8 @@
 -- The rows that chains have at a version are those of the tables there, in the same order.
-use Rattle.std.proofs.Common.{◌≡◌, ℕ, ◌+◌, ◌<◌, Bool, true, false, cond, ◌&&◌, ◌==◌, List, [], ◌∷◌, ◌++◌, map, take}
-use Rattle.std.proofs.Common.{Option, None, Some, Less, refl, sym, ap, subst, ◌∙◌, inl, inr, arith, append_assoc}
+use Rattle.std.proofs.Common.{◌≡◌, ℕ, ◌+◌, ◌<◌, Bool, true, false, cond, ◌&&◌, ◌==◌, nat_le, nat_lt, List, [], ◌∷◌, ◌++◌, map, take, length}
+use Rattle.std.proofs.Common.{Option, None, Some, Less, refl, sym, ap, subst, ◌∙◌, inl, inr, arith, append-nil, append_assoc}
 use Rattle.std.specs.Prelude.{IfSome}
-use Rattle.std.specs.List.{AllByRecursion}
+use Rattle.std.specs.List.{AllByRecursion, filter}
 use Rattle.std.specs.List.Sorted.{IsStrictlySortedBy, IsNonDecreasingBy}
 use Rattle.std.specs.Map.{lookup, keys_of}
 use Rattle.std.specs.Option.{option_map}
@@ -32,7 +32,7 @@ use Rattle.rows.specs.Commits.{apply_commits, tables_after}
 use Rattle.rows.specs.Values.{bytes_of}
 use Rattle.mvcc.specs.declared.link.Link.{Link}
 use Rattle.mvcc.specs.Inner.Chains.{Chains, bytes_at, links_at, links_found, AreChains}
-use Rattle.mvcc.specs.Inner.Images.{Found, found, found_at, chains_of, inserts_of}
+use Rattle.mvcc.specs.Inner.Images.{Found, found, found_at, chains_of, chains_within, is_within, inserts_of}
 use Rattle.mvcc.specs.Inner.Keys.{is_key_of, key_cmp}
 use Rattle.mvcc.specs.Inner.RowBytes.{wide, blank_in, blank_after_commits, HaveValues, IsTold, RowsHaveBytes}
 use Rattle.mvcc.proofs.Keeping.{row-kept}
@@ -119,20 +119,35 @@ sorted-rising (chain ∷ chains) h = (
   sorted-rising chains (sorted_tail key_cmp chain.0 (keys_of chains) h),
 )
 
--- those from the first key of a table to before the first of the next are those of the table
-abbrev first_key : ℕ → Bound (ℕ × ℕ)
-first_key table = Included (table, 0)
+-- those from a key of a table to before the first of the next are those of the table from that row on
+abbrev first_key : ℕ → ℕ → Bound (ℕ × ℕ)
+first_key table from = Included (table, from)
 
 abbrev next_key : ℕ → Bound (ℕ × ℕ)
 next_key table = Excluded (table + 1, 0)
 
-in-range : (table a b : ℕ) → range_contains key_cmp (first_key table) (next_key table) (a, b) ≡ (a == table)
-in-range table a b = grind (arith, nat_tests)
+in-range : (table from a b : ℕ)
+    → range_contains key_cmp (first_key table from) (next_key table) (a, b) ≡ ((a == table) && is_within from None b)
+in-range table from a b = grind (arith, nat_tests)
 
-pub between : (table : ℕ) (chains : Chains) → entries_between key_cmp (first_key table) (next_key table) chains ≡ chains_of table chains
-between table chains =
-    filter_agree (λ (chain : (ℕ × ℕ) × List Link). range_contains key_cmp (first_key table) (next_key table) chain.0)
-    (λ (chain : (ℕ × ℕ) × List Link). chain.0.0 == table) (λ chain. in-range table chain.0.0 chain.0.1) chains
+-- a filter by both is a filter of what the first leaves
+filter-both : {X : Type 0} (p q : X → Bool) (xs : List X) → filter (λ x. p x && q x) xs ≡ filter q (filter p xs)
+filter-both p q [] = refl
+filter-both p q (x ∷ xs) = by (p x) (filter-both p q xs)
+  where
+    by : (here : Bool) → filter (λ y. p y && q y) xs ≡ filter q (filter p xs)
+        → cond (here && q x) (x ∷ filter (λ y. p y && q y) xs) (filter (λ y. p y && q y) xs)
+        ≡ filter q (cond here (x ∷ filter p xs) (filter p xs))
+    by true rest = ap (λ ys. cond (q x) (x ∷ ys) ys) rest
+    by false rest = rest
+
+pub between : (table from : ℕ) (chains : Chains)
+    → entries_between key_cmp (first_key table from) (next_key table) chains ≡ chains_within table from None chains
+between table from chains =
+    filter_agree (λ (chain : (ℕ × ℕ) × List Link). range_contains key_cmp (first_key table from) (next_key table) chain.0)
+    (λ (chain : (ℕ × ℕ) × List Link). (chain.0.0 == table) && is_within from None chain.0.1)
+    (λ chain. in-range table from chain.0.0 chain.0.1) chains
+    ∙ filter-both (λ (chain : (ℕ × ℕ) × List Link). chain.0.0 == table) (λ chain. is_within from None chain.0.1) chains
 
 -- ---- the versions of each chain do not fall
 
@@ -150,6 +165,9 @@ same-table t r a b h = grind (arith, nat_tests)
 
 same-row : (t r a b : ℕ) → is_key_of t r (a, b) ≡ true → b ≡ r
 same-row t r a b h = grind (arith, nat_tests)
+
+later-row : (t r a b : ℕ) → key_cmp (t, r) (a, b) ≡ Less → a ≡ t → r < b
+later-row t r a b less same = grind (arith, nat_tests)
 
 after-none : (t r : ℕ) (chains : Chains) → After (t, r) chains → lookup (is_key_of t r) chains ≡ None
 after-none t r [] h = refl
@@ -185,41 +203,186 @@ each-sorted (chain ∷ chains) rise h = (
           (cond-false (is_key_of t r chain.0) (Some chain.1) (lookup (is_key_of t r) chains) apart) (h t r)
     ]
 
-of-table : (table : ℕ) (chains : Chains) → Falls chains → Falls (chains_of table chains)
-of-table table [] all = tt
-of-table table (chain ∷ chains) all = by (chain.0.0 == table) (of-table table chains all.1)
+filtered : (keep : (ℕ × ℕ) × List Link → Bool) (chains : Chains) → Falls chains → Falls (filter keep chains)
+filtered keep [] all = tt
+filtered keep (chain ∷ chains) all = by (keep chain) (filtered keep chains all.1)
   where
-    by : (here : Bool) → Falls (chains_of table chains) → Falls (cond here (chain ∷ chains_of table chains) (chains_of table chains))
+    by : (here : Bool) → Falls (filter keep chains) → Falls (cond here (chain ∷ filter keep chains) (filter keep chains))
     by true rest = (all.0, rest)
     by false rest = rest
 
-pub table-sorted : (table : ℕ) (chains : Chains) → IsStrictlySortedBy key_cmp (keys_of chains)
-    → ((t r : ℕ) → Sorted (links_at chains t r)) → Falls (chains_of table chains)
-table-sorted table chains sorted h = of-table table chains (each-sorted chains (sorted-rising chains sorted) h)
+pub within-sorted : (table from : ℕ) (next : Option ℕ) (chains : Chains) → IsStrictlySortedBy key_cmp (keys_of chains)
+    → ((t r : ℕ) → Sorted (links_at chains t r)) → Falls (chains_within table from next chains)
+within-sorted table from next chains sorted h =
+    filtered (λ chain. is_within from next chain.0.1) (chains_of table chains)
+    (filtered (λ chain. chain.0.0 == table) chains (each-sorted chains (sorted-rising chains sorted) h))
+
+-- ---- chains up to one of them
+
+-- the chains of a table rise by row
+abbrev RowsRise : Chains → Type 0
+RowsRise [] = Unit {0}
+RowsRise (chain ∷ chains) = AllByRecursion (λ other. chain.0.1 < other.0.1) chains × RowsRise chains
+
+rows-after : (table : ℕ) (key : ℕ × ℕ) (chains : Chains) → key.0 ≡ table → After key chains
+    → AllByRecursion (λ other. key.1 < other.0.1) (chains_of table chains)
+rows-after table key [] same h = tt
+rows-after table key (chain ∷ chains) same h = by (chain.0.0 == table) refl (rows-after table key chains same h.1)
+  where
+    by : (here : Bool) → (chain.0.0 == table) ≡ here → AllByRecursion (λ other. key.1 < other.0.1) (chains_of table chains)
+        → AllByRecursion (λ other. key.1 < other.0.1) (cond here (chain ∷ chains_of table chains) (chains_of table chains))
+    by true e rest = (later-row key.0 key.1 chain.0.0 chain.0.1 h.0 (eqb-true chain.0.0 table e ∙ sym same), rest)
+    by false e rest = rest
+
+rows-rise : (table : ℕ) (chains : Chains) → Rising chains → RowsRise (chains_of table chains)
+rows-rise table [] h = tt
+rows-rise table (chain ∷ chains) h = by (chain.0.0 == table) refl (rows-rise table chains h.1)
+  where
+    by : (here : Bool) → (chain.0.0 == table) ≡ here → RowsRise (chains_of table chains)
+        → RowsRise (cond here (chain ∷ chains_of table chains) (chains_of table chains))
+    by true e rest = (rows-after table chain.0 chains (eqb-true chain.0.0 table e) h.0, rest)
+    by false e rest = rest
+
+above-filtered : (keep : (ℕ × ℕ) × List Link → Bool) (low : ℕ) (chains : Chains) → AllByRecursion (λ other. low < other.0.1) chains
+    → AllByRecursion (λ other. low < other.0.1) (filter keep chains)
+above-filtered keep low [] h = tt
+above-filtered keep low (chain ∷ chains) h = by (keep chain) (above-filtered keep low chains h.1)
+  where
+    by : (here : Bool) → AllByRecursion (λ other. low < other.0.1) (filter keep chains)
+        → AllByRecursion (λ other. low < other.0.1) (cond here (chain ∷ filter keep chains) (filter keep chains))
+    by true rest = (h.0, rest)
+    by false rest = rest
+
+rise-filtered : (keep : (ℕ × ℕ) × List Link → Bool) (chains : Chains) → RowsRise chains → RowsRise (filter keep chains)
+rise-filtered keep [] h = tt
+rise-filtered keep (chain ∷ chains) h = by (keep chain) (rise-filtered keep chains h.1)
+  where
+    by : (here : Bool) → RowsRise (filter keep chains) → RowsRise (cond here (chain ∷ filter keep chains) (filter keep chains))
+    by true rest = (above-filtered keep chain.0.1 chains h.0, rest)
+    by false rest = rest
+
+all-below : (row : ℕ) (chains : Chains) → AllByRecursion (λ other. row < other.0.1) chains
+    → filter (λ chain. nat_lt chain.0.1 row) chains ≡ []
+all-below row [] h = refl
+all-below row (chain ∷ chains) h =
+    let apart : nat_lt chain.0.1 row ≡ false = grind (arith, nat_tests, h.0) in
+    cond-false (nat_lt chain.0.1 row) (chain ∷ filter (λ other. nat_lt other.0.1 row) chains)
+    (filter (λ other. nat_lt other.0.1 row) chains) apart
+    ∙ all-below row chains h.1
+
+-- those below the first that is left are those so far
+below-head : (done : Chains) (key : ℕ × ℕ) (links : List Link) (rest : Chains) → RowsRise (done ++ (key, links) ∷ rest)
+    → filter (λ chain. nat_lt chain.0.1 key.1) (done ++ (key, links) ∷ rest) ≡ done
+below-head [] key links rest h =
+    let apart : nat_lt key.1 key.1 ≡ false = grind (arith, nat_tests) in
+    cond-false (nat_lt key.1 key.1) ((key, links) ∷ filter (λ chain. nat_lt chain.0.1 key.1) rest)
+    (filter (λ chain. nat_lt chain.0.1 key.1) rest) apart
+    ∙ all-below key.1 rest h.0
+below-head (chain ∷ done) key links rest h =
+    let less : chain.0.1 < key.1 = in-middle done h.0 in
+    let here : nat_lt chain.0.1 key.1 ≡ true = grind (arith, nat_tests, less) in
+    cond-true (nat_lt chain.0.1 key.1) (chain ∷ filter (λ other. nat_lt other.0.1 key.1) (done ++ (key, links) ∷ rest))
+    (filter (λ other. nat_lt other.0.1 key.1) (done ++ (key, links) ∷ rest)) here
+    ∙ ap (λ chains. chain ∷ chains) (below-head done key links rest h.1)
+  where
+    in-middle : (begun : Chains) → AllByRecursion (λ other. chain.0.1 < other.0.1) (begun ++ (key, links) ∷ rest) → chain.0.1 < key.1
+    in-middle [] all = all.0
+    in-middle (one ∷ begun) all = in-middle begun all.1
+
+-- so of the rows from one on, those before the first that is left are those so far
+pub upto-head : (table from : ℕ) (chains done rest : Chains) (key : ℕ × ℕ) (links : List Link)
+    → IsStrictlySortedBy key_cmp (keys_of chains) → done ++ (key, links) ∷ rest ≡ chains_within table from None chains
+    → chains_within table from (Some key.1) chains ≡ done
+upto-head table from chains done rest key links sorted is =
+    filter-both (λ (chain : (ℕ × ℕ) × List Link). is_within from None chain.0.1) (λ chain. nat_lt chain.0.1 key.1)
+    (chains_of table chains)
+    ∙ ap (filter (λ chain. nat_lt chain.0.1 key.1)) (sym is)
+    ∙ below-head done key links rest
+    (subst RowsRise (sym is)
+    (rise-filtered (λ chain. is_within from None chain.0.1) (chains_of table chains) (rows-rise table chains (sorted-rising chains sorted))))
+
+from-on : (from : ℕ) (chains : Chains)
+    → AllByRecursion (λ chain. nat_le from chain.0.1 ≡ true) (filter (λ chain. is_within from None chain.0.1) chains)
+from-on from [] = tt
+from-on from (chain ∷ chains) = by (nat_le from chain.0.1) refl (from-on from chains)
+  where
+    by : (here : Bool) → nat_le from chain.0.1 ≡ here
+        → AllByRecursion (λ other. nat_le from other.0.1 ≡ true) (filter (λ other. is_within from None other.0.1) chains)
+        → AllByRecursion (λ other. nat_le from other.0.1 ≡ true)
+        (cond here (chain ∷ filter (λ other. is_within from None other.0.1) chains) (filter (λ other. is_within from None other.0.1) chains))
+    by true e rest = (e, rest)
+    by false e rest = rest
+
+-- and the first that is left is behind the one from which they are, once there is one before it
+pub later-head : (table from : ℕ) (chains done rest : Chains) (key : ℕ × ℕ) (links : List Link)
+    → IsStrictlySortedBy key_cmp (keys_of chains) → done ++ (key, links) ∷ rest ≡ chains_within table from None chains
+    → 0 < length done → from < key.1
+later-head table from chains [] rest key links sorted is some = absurd (omega (arith, some))
+later-head table from chains (first ∷ done) rest key links sorted is some =
+    grind (arith, nat_tests, low, less)
+  where
+    low : nat_le from first.0.1 ≡ true
+    low = (subst (AllByRecursion (λ chain. nat_le from chain.0.1 ≡ true)) (sym is) (from-on from (chains_of table chains))).0
+
+    in-middle : (begun : Chains) → AllByRecursion (λ other. first.0.1 < other.0.1) (begun ++ (key, links) ∷ rest) → first.0.1 < key.1
+    in-middle [] all = all.0
+    in-middle (one ∷ begun) all = in-middle begun all.1
+
+    less : first.0.1 < key.1
+    less =
+        in-middle done (subst RowsRise (sym is)
+        (rise-filtered (λ chain. is_within from None chain.0.1) (chains_of table chains)
+        (rows-rise table chains (sorted-rising chains sorted)))).0
 
 -- ---- a walk over the chains of a table
 
+found-append : (version : ℕ) (blank : List ℕ) (done more : Chains)
+    → found_at version blank (done ++ more) ≡ found_at version blank done ++ found_at version blank more
+found-append version blank [] more = refl
+found-append version blank (chain ∷ done) more =
+    let own = found blank chain.0.1 (bytes_at version chain.1) in
+    ap (λ (rest : Found). own ++ rest) (found-append version blank done more)
+    ∙ sym (append_assoc own (found_at version blank done) (found_at version blank more))
+
 -- one chain on
-pub walk-more : (version : ℕ) (blank : List ℕ) (done whole : Found) (key : ℕ × ℕ) (links : List Link) (rest all : Chains)
-    (bytes : Option (List ℕ)) → bytes ≡ bytes_at version links → all ≡ (key, links) ∷ rest → done ++ found_at version blank all ≡ whole
-    → (done ++ found blank key.1 bytes) ++ found_at version blank rest ≡ whole
-walk-more version blank done whole key links rest all bytes own step is =
-    append_assoc done (found blank key.1 bytes) (found_at version blank rest)
-    ∙ ap (λ (b : Option (List ℕ)). done ++ (found blank key.1 b ++ found_at version blank rest)) own
-    ∙ ap (λ (chains : Chains). done ++ found_at version blank chains) (sym step) ∙ is
+found-more : (version : ℕ) (blank : List ℕ) (done : Chains) (key : ℕ × ℕ) (links : List Link) (bytes : Option (List ℕ))
+    → bytes ≡ bytes_at version links
+    → found_at version blank (done ++ (key, links) ∷ []) ≡ found_at version blank done ++ found blank key.1 bytes
+found-more version blank done key links bytes own =
+    found-append version blank done ((key, links) ∷ [])
+    ∙ ap (λ (one : Found). found_at version blank done ++ one) (append-nil (found blank key.1 (bytes_at version links)))
+    ∙ ap (λ (b : Option (List ℕ)). found_at version blank done ++ found blank key.1 b) (sym own)
 
-pub inserts-more : (table : ℕ) (start now after : List Entry) (done more : Found) → now ≡ start ++ inserts_of table done
-    → after ≡ now ++ inserts_of table more → after ≡ start ++ inserts_of table (done ++ more)
-inserts-more table start now after done more is pushed =
+pub inserts-more : (version table : ℕ) (blank : List ℕ) (start now after : List Entry) (done : Chains) (key : ℕ × ℕ) (links : List Link)
+    (bytes : Option (List ℕ)) → bytes ≡ bytes_at version links → now ≡ start ++ inserts_of table (found_at version blank done)
+    → after ≡ now ++ inserts_of table (found blank key.1 bytes)
+    → after ≡ start ++ inserts_of table (found_at version blank (done ++ (key, links) ∷ []))
+inserts-more version table blank start now after done key links bytes own is pushed =
+    let begun = found_at version blank done in
+    let more = found blank key.1 bytes in
     pushed ∙ ap (λ (front : List Entry). front ++ inserts_of table more) is
-    ∙ append_assoc start (inserts_of table done) (inserts_of table more)
-    ∙ ap (λ (all : List Entry). start ++ all) (sym (map-append _ done more))
+    ∙ append_assoc start (inserts_of table begun) (inserts_of table more)
+    ∙ ap (λ (all : List Entry). start ++ all) (sym (map-append _ begun more))
+    ∙ ap (λ (all : Found). start ++ inserts_of table all) (sym (found-more version blank done key links bytes own))
 
-pub bytes-more : (blank : List ℕ) (done : Found) (row : ℕ) (bytes : Option (List ℕ)) → AllByRecursion (λ one. AreBytes one.1) done
+bytes-found : (blank : List ℕ) (done : Found) (row : ℕ) (bytes : Option (List ℕ)) → AllByRecursion (λ one. AreBytes one.1) done
     → IfSome bytes (λ b. AreBytes (wide blank b)) → AllByRecursion (λ one. AreBytes one.1) (done ++ found blank row bytes)
-bytes-more blank [] row None all are = tt
-bytes-more blank [] row (Some bytes) all are = (are, tt)
-bytes-more blank (one ∷ done) row bytes all are = (all.0, bytes-more blank done row bytes all.1 are)
+bytes-found blank [] row None all are = tt
+bytes-found blank [] row (Some bytes) all are = (are, tt)
+bytes-found blank (one ∷ done) row bytes all are = (all.0, bytes-found blank done row bytes all.1 are)
+
+pub bytes-more : (version : ℕ) (blank : List ℕ) (done : Chains) (key : ℕ × ℕ) (links : List Link) (bytes : Option (List ℕ))
+    → bytes ≡ bytes_at version links → AllByRecursion (λ one. AreBytes one.1) (found_at version blank done)
+    → IfSome bytes (λ b. AreBytes (wide blank b))
+    → AllByRecursion (λ one. AreBytes one.1) (found_at version blank (done ++ (key, links) ∷ []))
+bytes-more version blank done key links bytes own all are =
+    subst (AllByRecursion (λ one. AreBytes one.1)) (sym (found-more version blank done key links bytes own))
+    (bytes-found blank (found_at version blank done) key.1 bytes all are)
+
+pub walk-more : (done : Chains) (key : ℕ × ℕ) (links : List Link) (rest all whole : Chains) → all ≡ (key, links) ∷ rest
+    → done ++ all ≡ whole → (done ++ (key, links) ∷ []) ++ rest ≡ whole
+walk-more done key links rest all whole step is =
+    append_assoc done ((key, links) ∷ []) rest ∙ ap (λ (chains : Chains). done ++ chains) (sym step) ∙ is
 
 -- ---- what is found of a table
 
@@ -242,9 +405,6 @@ put-apart : (blank : List ℕ) (r row : ℕ) (bytes : Option (List ℕ)) (rest :
     → look (found blank row bytes ++ rest) r ≡ look rest r
 put-apart blank r row None rest apart = refl
 put-apart blank r row (Some bytes) rest apart = cond-false (is_at (nat_cmp r) row) (Some (wide blank bytes)) (look rest r) apart
-
-later-row : (t r a b : ℕ) → key_cmp (t, r) (a, b) ≡ Less → a ≡ t → r < b
-later-row t r a b less same = grind (arith, nat_tests)
 
 module _ (version table : ℕ) (blank : List ℕ) where
   abbrev found_in : Chains → Found
@@ -336,29 +496,124 @@ found-bytes (e ∷ es) r all = by (is_at (nat_cmp r) e.0) (found-bytes es r all.
     by true rest = all.0
     by false rest = rest
 
--- so the inserts of what is found are those of the table's rows
+-- ---- some of the rows
+
+-- those whose identifiers a test keeps
+module _ (keep : ℕ → Bool) where
+  kept-above : {X : Type 0} (low : ℕ) (es : List (ℕ × X)) → AllByRecursion (λ e. low < e.0) es
+      → AllByRecursion (λ e. low < e.0) (filter (λ e. keep e.0) es)
+  kept-above low [] h = tt
+  kept-above low (e ∷ es) h = by (keep e.0) (kept-above low es h.1)
+    where
+      by : (here : Bool) → AllByRecursion (λ one. low < one.0) (filter (λ one. keep one.0) es)
+          → AllByRecursion (λ one. low < one.0) (cond here (e ∷ filter (λ one. keep one.0) es) (filter (λ one. keep one.0) es))
+      by true rest = (h.0, rest)
+      by false rest = rest
+
+  kept-up : {X : Type 0} (es : List (ℕ × X)) → Up es → Up (filter (λ e. keep e.0) es)
+  kept-up [] h = tt
+  kept-up (e ∷ es) h = by (keep e.0) (kept-up es h.1)
+    where
+      by : (here : Bool) → Up (filter (λ one. keep one.0) es)
+          → Up (cond here (e ∷ filter (λ one. keep one.0) es) (filter (λ one. keep one.0) es))
+      by true rest = (kept-above e.0 es h.0, rest)
+      by false rest = rest
+
+  either-way : {Y : Type 0} (here : Bool) (y : Y) → cond here y y ≡ y
+  either-way true y = refl
+  either-way false y = refl
+
+  kept-look : {X : Type 0} (es : List (ℕ × X)) (r : ℕ) → look (filter (λ e. keep e.0) es) r ≡ cond (keep r) (look es r) None
+  kept-look [] r = sym (either-way (keep r) None)
+  kept-look {X} (e ∷ es) r = by (keep e.0) (is_at (nat_cmp r) e.0) refl refl (kept-look es r)
+    where
+      same-keep : is_at (nat_cmp r) e.0 ≡ true → keep r ≡ keep e.0
+      same-keep at = ap keep (sym (eqb-true e.0 r (sym (at-is r e.0) ∙ at)))
+
+      by : (here at : Bool) → keep e.0 ≡ here → is_at (nat_cmp r) e.0 ≡ at
+          → look (filter (λ one. keep one.0) es) r ≡ cond (keep r) (look es r) None
+          → look (cond here (e ∷ filter (λ one. keep one.0) es) (filter (λ one. keep one.0) es)) r
+          ≡ cond (keep r) (cond at (Some e.1) (look es r)) None
+      by true true k a rest =
+          cond-true (is_at (nat_cmp r) e.0) (Some e.1) (look (filter (λ one. keep one.0) es) r) a
+          ∙ sym (cond-true (keep r) (Some e.1) None (same-keep a ∙ k))
+      by true false k a rest =
+          cond-false (is_at (nat_cmp r) e.0) (Some e.1) (look (filter (λ one. keep one.0) es) r) a ∙ rest
+      by false true k a rest =
+          rest ∙ cond-false (keep r) (look es r) None (same-keep a ∙ k) ∙ sym (cond-false (keep r) (Some e.1) None (same-keep a ∙ k))
+      by false false k a rest = rest
+
+  kept-listed : (rows : Rows) → listed (filter (λ row. keep row.0) rows) ≡ filter (λ e. keep e.0) (listed rows)
+  kept-listed [] = refl
+  kept-listed (row ∷ rows) = by (keep row.0) (kept-listed rows)
+    where
+      by : (here : Bool) → listed (filter (λ one. keep one.0) rows) ≡ filter (λ e. keep e.0) (listed rows)
+          → listed (cond here (row ∷ filter (λ one. keep one.0) rows) (filter (λ one. keep one.0) rows))
+          ≡ cond here ((row.0, bytes_of row.1) ∷ filter (λ e. keep e.0) (listed rows)) (filter (λ e. keep e.0) (listed rows))
+      by true rest = ap (λ (all : Found). (row.0, bytes_of row.1) ∷ all) rest
+      by false rest = rest
+
+  kept-found : (version : ℕ) (blank : List ℕ) (chains : Chains)
+      → found_at version blank (filter (λ chain. keep chain.0.1) chains) ≡ filter (λ e. keep e.0) (found_at version blank chains)
+  kept-found version blank [] = refl
+  kept-found version blank (chain ∷ chains) =
+      by (keep chain.0.1) (bytes_at version chain.1) refl refl (kept-found version blank chains)
+    where
+      by : (here : Bool) (bytes : Option (List ℕ)) → keep chain.0.1 ≡ here → bytes_at version chain.1 ≡ bytes
+          → found_at version blank (filter (λ one. keep one.0.1) chains) ≡ filter (λ e. keep e.0) (found_at version blank chains)
+          → found_at version blank (cond here (chain ∷ filter (λ one. keep one.0.1) chains) (filter (λ one. keep one.0.1) chains))
+          ≡ filter (λ e. keep e.0) (found blank chain.0.1 bytes ++ found_at version blank chains)
+      by true None k b rest = ap (λ (own : Option (List ℕ)). found blank chain.0.1 own
+          ++ found_at version blank (filter (λ one. keep one.0.1) chains)) b ∙ rest
+      by true (Some bytes) k b rest = ap (λ (own : Option (List ℕ)). found blank chain.0.1 own
+          ++ found_at version blank (filter (λ one. keep one.0.1) chains)) b
+          ∙ ap (λ (all : Found). (chain.0.1, wide blank bytes) ∷ all) rest
+          ∙ sym (cond-true (keep chain.0.1) ((chain.0.1, wide blank bytes) ∷ filter (λ e. keep e.0) (found_at version blank chains))
+          (filter (λ e. keep e.0) (found_at version blank chains)) k)
+      by false None k b rest = rest
+      by false (Some bytes) k b rest = rest
+          ∙ sym (cond-false (keep chain.0.1) ((chain.0.1, wide blank bytes) ∷ filter (λ e. keep e.0) (found_at version blank chains))
+          (filter (λ e. keep e.0) (found_at version blank chains)) k)
+
+-- so the inserts of what is found of some rows are those of these rows of the table
 pub rows-found : (law : RowsHaveBytes) (rise : VersionsRise) (back : BytesAreBack) (shape : Shape) (commits : List Commit) (chains : Chains)
-    (version table : ℕ) (blank : List ℕ) → is_ok (apply_commits (opening shape) commits) ≡ true → HaveValues commits
-    → AreChains shape commits chains → IsStrictlySortedBy key_cmp (keys_of chains)
+    (version table from : ℕ) (next : Option ℕ) (blank : List ℕ) → is_ok (apply_commits (opening shape) commits) ≡ true
+    → HaveValues commits → AreChains shape commits chains → IsStrictlySortedBy key_cmp (keys_of chains)
     → blank ≡ blank_after_commits table (blank_in shape table) (take version commits)
-    → AllByRecursion (λ row. AreBytes row.1) (found_at version blank (chains_of table chains))
-    → inserts_of table (found_at version blank (chains_of table chains))
-    ≡ rows_image table (rows_of (tables_after shape commits version) table)
-rows-found law rise back shape commits chains version table blank legal valued kept sorted is are =
+    → AllByRecursion (λ row. AreBytes row.1) (found_at version blank (chains_within table from next chains))
+    → inserts_of table (found_at version blank (chains_within table from next chains))
+    ≡ rows_image table (filter (λ row. is_within from next row.0) (rows_of (tables_after shape commits version) table))
+rows-found law rise back shape commits chains version table from next blank legal valued kept sorted is are =
     let tables = tables_after shape commits version in
     let rows = rows_of tables table in
     let rising = sorted-rising chains sorted in
-    let alike : (r : ℕ) → look (found_in version table blank chains) r ≡ look (listed rows) r =
-    λ r.
+    let keep : ℕ → Bool = is_within from next in
+    let all : Found = found_in version table blank chains in
+    let parts : found_at version blank (chains_within table from next chains) ≡ filter (λ e. keep e.0) all =
+    kept-found keep version blank (chains_of table chains) in
+    let own : (r : ℕ) → keep r ≡ true → look all r ≡ look (listed rows) r =
+    λ r here.
     let bytes = bytes_at version (links_at chains table r) in
     let there = found-there version table blank chains r rising in
     let told : IsTold (kinds_of tables table) blank (row_at rows r) bytes =
     subst (λ (front : List ℕ). IsTold (kinds_of tables table) front (row_at rows r) bytes) (sym is)
     (row-kept law shape commits chains version table r legal valued kept) in
-    let own : IfSome (option_map (wide blank) bytes) AreBytes =
-    subst (λ (row : Option (List ℕ)). IfSome row AreBytes) there (found-bytes (found_in version table blank chains) r are) in
-    there ∙ sym (told-back back (kinds_of tables table) blank (row_at rows r) bytes told own) ∙ sym (listed-found rows r) in
-    ap (inserts_of table)
-    (same (found_in version table blank chains) (listed rows) (found-up version table blank chains rising)
-    (listed-up rows (rise shape commits version table)) alike)
-    ∙ listed-inserts table rows
+    let some : IfSome (look all r) AreBytes =
+    subst (λ (row : Option (List ℕ)). IfSome row AreBytes)
+    (kept-look keep all r ∙ cond-true (keep r) (look all r) None here)
+    (found-bytes (filter (λ e. keep e.0) all) r (subst (AllByRecursion (λ row. AreBytes row.1)) parts are)) in
+    there
+    ∙ sym (told-back back (kinds_of tables table) blank (row_at rows r) bytes told
+    (subst (λ (row : Option (List ℕ)). IfSome row AreBytes) there some))
+    ∙ sym (listed-found rows r) in
+    let alike : (r : ℕ) → look (filter (λ e. keep e.0) all) r ≡ look (filter (λ e. keep e.0) (listed rows)) r =
+    λ r. kept-look keep all r ∙ by-keep (keep r) (look all r) (look (listed rows) r) (own r) ∙ sym (kept-look keep (listed rows) r) in
+    ap (inserts_of table) (parts
+    ∙ same (filter (λ e. keep e.0) all) (filter (λ e. keep e.0) (listed rows)) (kept-up keep all (found-up version table blank chains rising))
+    (kept-up keep (listed rows) (listed-up rows (rise shape commits version table))) alike
+    ∙ sym (kept-listed keep rows))
+    ∙ listed-inserts table (filter (λ row. keep row.0) rows)
+  where
+    by-keep : (here : Bool) (one other : Option (List ℕ)) → (here ≡ true → one ≡ other) → cond here one None ≡ cond here other None
+    by-keep true one other is = is refl
+    by-keep false one other is = refl

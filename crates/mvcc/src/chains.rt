@@ -1,6 +1,6 @@
 //! The chains of all tables' rows.
 
-ghost use Rattle.std.specs.Prelude.{◌≡◌, ℕ, ◌+◌, ◌<◌, ◌++◌, [], false, length, OnOk, OnErr};
+ghost use Rattle.std.specs.Prelude.{◌≡◌, ℕ, ◌+◌, ◌<◌, ◌++◌, [], false, length, IfOk, IfSome, OnOk, OnErr};
 ghost use Rattle.std.specs.List.{list_any, AllByRecursion};
 ghost use Rattle.std.specs.List.Sorted.{IsNonDecreasingBy, IsStrictlySortedBy};
 ghost use Rattle.std.specs.Map.{keys_of};
@@ -8,7 +8,7 @@ ghost use Rattle.std.specs.Option.{option_map};
 ghost use Rattle.mvcc.specs.Inner.Chains.{newest_link, bytes_at, linked, taken_back_at, links_at, all_taken_back, and_entries, Turns};
 ghost use Rattle.mvcc.specs.Inner.Chains.{AreChains, AreChainsTakenBack, AreLinkable};
 ghost use Rattle.mvcc.specs.Inner.Columns.{columns_after};
-ghost use Rattle.mvcc.specs.Inner.Images.{found_at, chains_of, inserts_of};
+ghost use Rattle.mvcc.specs.Inner.Images.{found_at, chains_within, inserts_of};
 ghost use Rattle.mvcc.specs.Inner.Keys.{adds_column, key_cmp};
 ghost use Rattle.mvcc.specs.Inner.RowBytes.{HasValue};
 ghost use Rattle.rows.specs.Shape.{Shape};
@@ -75,28 +75,40 @@ impl Chains {
         self.chains.len()
     }
 
-    /// Adds to an image an insert for each row of the table that is there at a version, in rising
-    /// identifier, with the bytes of this blank row behind its own. Fails only if out of memory.
+    /// Adds to an image an insert for each row of the table from an identifier on that is there at a
+    /// version, in rising identifier, with the bytes of this blank row behind its own. After this many
+    /// rows that were ever written, which is at least 1, it stops at the next one and answers that
+    /// one's identifier; `None` if none is left. Fails only if out of memory.
     pub fn push_rows(
         &self,
         alloc: Global,
         version: u64,
         table: u8,
+        from: u64,
+        most: usize,
         blank: &[u8],
         image: &mut Vec<Entry>,
-    ) -> Result<(), AllocError>
+    ) -> Result<Option<u64>, AllocError>
         requires table { table < TABLES_MAX }
+        requires some { 0 < most }
         requires sorted { (table row : ℕ) → IsNonDecreasingBy (λ link. link.version) (links_at self.now table row) }
-        ensures inserts { OnOk result
-            (image.new.items ≡ image.old.items ++ inserts_of table (found_at version blank.now (chains_of table self.now))) }
-        ensures bytes { OnOk result (AllByRecursion (λ row. AreBytes row.1) (found_at version blank.now (chains_of table self.now))) }
+        ensures inserts { IfOk result (λ next. image.new.items ≡ image.old.items
+            ++ inserts_of table (found_at version blank.now (chains_within table from next self.now))) }
+        ensures bytes { IfOk result
+            (λ next. AllByRecursion (λ row. AreBytes row.1) (found_at version blank.now (chains_within table from next self.now))) }
+        ensures later { IfOk result (λ next. IfSome next (λ row. from < row)) }
         ensures ordered { IsStrictlySortedBy key_cmp (keys_of self.now) }
     {
-        for (key, chain) in self.chains.range((table, 0)..(table + 1, 0)) {
+        let mut left = most;
+        for (key, chain) in self.chains.range((table, from)..(table + 1, 0)) {
+            if left == 0 {
+                return Ok(Some(key.1));
+            }
+            left -= 1;
             let bytes = chain.bytes_at(version);
             push_row(alloc, image, table, RowId(key.1), blank, bytes)?;
         }
-        Ok(())
+        Ok(None)
     }
 
     /// Adds links for the entries of the next commit, all of them or none, and the columns that they

@@ -28,6 +28,7 @@ mod columns;
 mod defining;
 mod faults;
 mod image;
+mod image_place;
 mod kept_bytes;
 mod kind_buffer;
 mod last_commits;
@@ -40,5 +41,6 @@ mod values;
 mod versions;
 
 pub use faults::TxFault;
+pub use image_place::ImagePlace;
 pub use transaction::Transaction;
 pub use versions::Versions;

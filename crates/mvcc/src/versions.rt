@@ -1,7 +1,7 @@
 //! Every version of the database: the list of its commits.
 
 ghost use Rattle.std.specs.Prelude.{◌≡◌, ◌<◌, ◌≤◌, ◌-◌, ◌∷◌, [], ◌++◌, ℕ, length, true, slice_get, take, drop};
-ghost use Rattle.std.specs.Prelude.{None, IfOk, IfErr, OnOk, OnErr};
+ghost use Rattle.std.specs.Prelude.{None, Some, IfOk, IfErr, OnOk, OnErr};
 ghost use Rattle.std.specs.Prelude.{IsOk, IfSome};
 ghost use Rattle.std.specs.Prelude.{if◌then◌else◌, ◌==◌};
 ghost use Rattle.std.specs.Bool.{OnTrue};
@@ -14,7 +14,8 @@ ghost use Rattle.rows.specs.Commits.{apply_commits, last_touching};
 ghost use Rattle.rows.specs.Spelling.{HasSpelling};
 ghost use Rattle.mvcc.specs.VersionList.{absorbed, defined_at, tables_at};
 ghost use Rattle.mvcc.specs.Newest.{newest_of, newest_in, newest_added};
-ghost use Rattle.mvcc.specs.Inner.Images.{image_at};
+ghost use Rattle.mvcc.specs.ImageParts.{image_rest, IsLaterPlace};
+ghost use Rattle.mvcc.specs.Inner.Images.{table_part};
 ghost use Rattle.mvcc.specs.Inner.Newest.{newest_for};
 ghost use Rattle.mvcc.specs.Values.{value_in};
 
@@ -23,6 +24,7 @@ use crate::chains::Chains;
 use crate::columns::Columns;
 use crate::defining::are_defined;
 use crate::image::push_columns;
+use crate::image_place::ImagePlace;
 use crate::last_commits::LastCommits;
 use crate::laws::rows_have_their_bytes;
 use rows::laws::{
@@ -257,13 +259,46 @@ impl Versions {
         ensures { IfOk result
             (λ entries. entries.items ≡ image_of (shape_of self.now.schema) (tables_at self.now version)) }
     {
-        changes_tell_kinds();
-        self.schema.keeps_limits();
         let mut image = Vec::with_capacity(self.alloc, self.image_len_max(version))?;
-        for table in 0..TABLES_MAX as u8 {
-            self.push_table(version, table, &mut image)?;
+        let mut place = Some(ImagePlace::first());
+        while let Some(begin) = place {
+            place = self.push_image_part(version, begin, usize::MAX, &mut image)?;
         }
         Ok(image)
+    }
+
+    /// Adds a part of the image of the tables at that version, from a place on: rows of one table, as
+    /// many as go over this many rows that were ever written, and one at least, and before the first
+    /// of them the table's added columns. Answers the place where the image goes on; `None` if this
+    /// was its last part. Who makes an image part by part reads the versions for a short time each,
+    /// and later commits may be added meanwhile. Fails only if out of memory.
+    pub fn push_image_part(
+        &self,
+        version: u64,
+        place: ImagePlace,
+        most: usize,
+        image: &mut Vec<Entry>,
+    ) -> Result<Option<ImagePlace>, AllocError>
+        ensures part { IfOk result (λ next.
+            image.new.items ++ image_rest (shape_of self.now.schema) (tables_at self.now version) next
+            ≡ image.old.items ++ image_rest (shape_of self.now.schema) (tables_at self.now version) (Some place)) }
+        ensures later { IfOk result (λ next. IfSome next (IsLaterPlace place)) }
+    {
+        changes_tell_kinds();
+        images_rebuild_tables();
+        self.schema.keeps_limits();
+        let ImagePlace { table, row } = place;
+        if table as usize >= TABLES_MAX {
+            return Ok(None);
+        }
+        if let Some(row) = self.push_table_part(version, table, row, most.max(1), image)? {
+            return Ok(Some(ImagePlace { table, row }));
+        }
+        let table = table + 1;
+        if table as usize >= TABLES_MAX {
+            return Ok(None);
+        }
+        Ok(Some(ImagePlace { table, row: 0 }))
     }
 
     /// How many entries the image of the tables at that version has at most: one for each column that
@@ -295,23 +330,36 @@ impl Versions {
         added
     }
 
-    /// Adds the image of one table at that version, if there is one of that number. Fails only if out
-    /// of memory.
-    fn push_table(&self, version: u64, table: u8, image: &mut Vec<Entry>) -> Result<(), AllocError>
-        ensures { OnOk result
-            (image.new.items ≡ image.old.items ++ image_at (shape_of self.now.schema) (tables_at self.now version) table) }
+    /// Adds the image of one table at that version from a row on, if there is a table of that number:
+    /// from row 0 on with its added columns. It goes over this many rows that were ever written, and
+    /// answers the identifier of the next one; `None` if none is left. Fails only if out of memory.
+    fn push_table_part(
+        &self,
+        version: u64,
+        table: u8,
+        from: u64,
+        most: usize,
+        image: &mut Vec<Entry>,
+    ) -> Result<Option<u64>, AllocError>
+        requires table { table < TABLES_MAX }
+        requires some { 0 < most }
+        ensures part { IfOk result (λ next. image.new.items ≡ image.old.items
+            ++ table_part (shape_of self.now.schema) (tables_at self.now version) table from next) }
+        ensures later { IfOk result (λ next. IfSome next (λ row. from < row)) }
     {
         rows_have_their_bytes();
         images_rebuild_tables();
         commits_are_defined_one_by_one();
         changes_tell_kinds();
         let Some(kinds) = self.kinds_at(version, table) else {
-            return Ok(());
+            return Ok(None);
         };
-        push_columns(image, table, self.added_at(version, table))?;
+        if from == 0 {
+            push_columns(image, table, self.added_at(version, table))?;
+        }
         let (blank, _) = self.columns.blank(table).split_at(width_of_row(kinds));
         self.chains
-            .push_rows(self.alloc, version, table, blank, image)
+            .push_rows(self.alloc, version, table, from, most, blank, image)
     }
 
     /// The number of the last commit with an entry of that row; 0 if there is none. A commit that
