@@ -16,3 +16,13 @@ pub enum LineFault {
     #[error("{0}")]
     Tx(TxFault),
 }
+
+/// Why the image of what a seat has seen is not made.
+#[derive(Clone, Copy, Debug, PartialEq, Eq, Error)]
+pub enum ImageFault {
+    /// What is published could not be entered, or is shorter than what the seat has seen.
+    #[error("what is published could not be read")]
+    Unread,
+    #[error("out of memory")]
+    Memory,
+}

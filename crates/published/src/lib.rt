@@ -7,12 +7,14 @@
 //! is a reader with a list of its own: contracts see the list of commits that it has seen. Each of
 //! its reads enters what is published, takes that list if it is no shorter than the seat's own, and
 //! answers from it. No read takes a lock or memory, and no call of a seat waits. `meet` brings two
-//! seats to one list.
+//! seats to one list. `image` makes the image of the seat's list part by part, and enters what is
+//! published for each part anew.
 //!
 //! Promised, whatever the schedule: a seat's list is one that a journal may be of, so it is legal,
 //! and it begins with what it was before the call, even if the call is refused; a snapshot is the
 //! length of the new list; an answer and each refusal are those of the definitions on that list, or
-//! `Ahead` or `Unread` (`specs/Answers.antt`). `publish` shows everything that was added so far, or
+//! `Ahead` or `Unread` (`specs/Answers.antt`). An image is that of the tables after the seat's list,
+//! which it leaves as it was. `publish` shows everything that was added so far, or
 //! changes nothing (`specs/Publishing.antt`). Not promised: that a read enters, or finds the newest
 //! list.
 //!
@@ -28,7 +30,7 @@ mod publisher;
 mod seat;
 mod shown;
 
-pub use faults::LineFault;
+pub use faults::{ImageFault, LineFault};
 pub use line::{Line, Published, Sees};
 pub use publisher::Publisher;
 pub use seat::Seat;

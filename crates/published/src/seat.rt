@@ -1,22 +1,27 @@
 //! A seat: a reader of its own, and the list of commits that it has seen.
 
-ghost use Rattle.std.specs.Prelude.{◌≡◌, [], length, true, is_some, IfOk, IfErr, MatchBool, MatchOption};
+ghost use Rattle.std.specs.Prelude.{◌≡◌, [], ◌++◌, length, true, Some, is_some, IfOk, IfErr, IfSome, OnOk, MatchBool, MatchOption};
+ghost use Rattle.std.specs.List.{AllByRecursion};
 ghost use mathlib.Core.List.{IsPrefix};
 ghost use Rattle.journal.specs.Recovery.{IsJournaled};
-ghost use Rattle.rows.specs.Shape.{shape_of};
+ghost use Rattle.rows.specs.Commits.{tables_after};
+ghost use Rattle.rows.specs.Image.{image_of};
+ghost use Rattle.rows.specs.Shape.{shape_of, AreTables};
+ghost use Rattle.rows.specs.Spelling.{HasSpelling};
+ghost use Rattle.mvcc.specs.ImageParts.{image_rest, IsLaterPlace};
 ghost use Rattle.mvcc.specs.Transactions.{get_answer, insert_answer, set_answer, delete_answer, add_column_answer};
 ghost use Rattle.published.specs.declared.faults.LineFault.TheVariants.{Unread};
 ghost use Rattle.published.specs.Answers.{IsAnswer, IsChange};
 ghost use Rattle.published.specs.Publishing.{IsOfLine};
 
 use crate::answering::{add_column_to, delete_from, insert_into, set_in, value_of};
-use crate::faults::LineFault;
+use crate::faults::{ImageFault, LineFault};
 use crate::line::{Line, Published, Sees};
 use crate::shown::Shown;
 use history::Front;
 use left_right::reader::{Reader, Reading};
-use mvcc::Transaction;
-use rows::{RowId, Value};
+use mvcc::{ImagePlace, Transaction};
+use rows::{Entry, RowId, Value};
 use std::alloc::Global;
 use std::marker::Model;
 
@@ -222,6 +227,29 @@ impl<L: Line> Seat<L> {
         answer
     }
 
+    /// The image of the tables after the commits that the seat has seen (`mvcc::Versions::image`). What is
+    /// published is entered anew for each part of it, of one table and of at most this many rows that
+    /// were ever written, so whoever publishes waits for the time of one part at most. What is published
+    /// meanwhile is not followed: the seat has then seen what it had seen.
+    ///
+    /// Fails with `Unread` as `value` does, or with `Memory`.
+    pub fn image(&mut self, alloc: Global, most: usize) -> Result<Vec<Entry>, ImageFault>
+        ensures legal { IsJournaled L.workers (shape_of L.schema) self.new }
+        ensures same { self.new ≡ self.old }
+        ensures image { IfOk result (λ image. image.items
+            ≡ image_of (shape_of L.schema) (tables_after (shape_of L.schema) self.old (length self.old))) }
+        ensures spelled { IfOk result (λ image. AllByRecursion HasSpelling image.items) }
+    {
+        rows::laws::images_rebuild_tables();
+        let Seat { reader, front } = self;
+        let mut image = Vec::new(alloc);
+        let mut place = Some(ImagePlace::first());
+        while let Some(begin) = place {
+            place = push_part(reader, front, begin, most, &mut image)?;
+        }
+        Ok(image)
+    }
+
     /// Both seats take the longer of their lists. Takes no memory.
     pub fn meet(&mut self, other: &mut Seat<L>)
         ensures one { self.new ≡ other.new }
@@ -282,4 +310,38 @@ fn read<L: Line>(
         return None;
     }
     Some(reading)
+}
+
+/// Enters what is published, and adds the next part of the image of the tables after the commits of the
+/// front. Answers the place where the image goes on; `None` if this was its last part.
+fn push_part<L: Line>(
+    reader: &mut Option<Reader<Shown, (), Published<L>>>,
+    front: &Front<L>,
+    place: ImagePlace,
+    most: usize,
+    image: &mut Vec<Entry>,
+) -> Result<Option<ImagePlace>, ImageFault>
+    requires there { is_some reader.old ≡ true }
+    requires legal { IsJournaled L.workers (shape_of L.schema) front.now }
+    ensures there { is_some reader.new ≡ true }
+    ensures tables { OnOk result (AreTables (shape_of L.schema)) }
+    ensures part { IfOk result (λ next.
+        image.new.items
+        ++ image_rest (shape_of L.schema) (tables_after (shape_of L.schema) front.now (length front.now)) next
+        ≡ image.old.items
+        ++ image_rest (shape_of L.schema) (tables_after (shape_of L.schema) front.now (length front.now)) (Some place)) }
+    ensures later { IfOk result (λ next. IfSome next (IsLaterPlace place)) }
+{
+    let mut newest = front.again();
+    let Some(reading) = read(reader, &mut newest) else {
+        return Err(ImageFault::Unread);
+    };
+    let versions = &reading.get().versions;
+    versions.schema().keeps_limits();
+    let part = versions.push_image_part(front.len(), place, most, image);
+    *reader = Some(reading.leave());
+    match part {
+        Ok(next) => Ok(next),
+        Err(_) => Err(ImageFault::Memory),
+    }
 }
