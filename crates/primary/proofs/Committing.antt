@@ -1,7 +1,6 @@
 -- What stays of the lists with one commit more.
 use Rattle.std.proofs.Common.{◌≡◌, ◌+◌, ◌<◌, ◌≤◌, ◌^◌, ℕ, List, [], ◌∷◌, ◌++◌, length, map}
-use Rattle.std.proofs.Common.{Bool, sym, ap, ◌∙◌, arith, length-append}
-use Rattle.std.proofs.lemmas.List.{length-take-le}
+use Rattle.std.proofs.Common.{sym, ap, ◌∙◌, arith, length-append}
 use Rattle.std.specs.List.{AllByRecursion}
 use Rattle.rows.specs.declared.commit.Commit.{Commit}
 use Rattle.rows.specs.declared.entry.Entry.{Entry}
@@ -17,10 +16,8 @@ use Rattle.primary.proofs.Elements.{all-append}
 use Rattle.journal.specs.Recovery.{HasRecord}
 use Rattle.primary.specs.declared.tail.Tail.{Tail}
 use Rattle.primary.specs.Inner.Invariant.{AreLists}
-use Rattle.primary.specs.Inner.Parts.{primary_of}
 use Rattle.primary.specs.Inner.Tail.{IsTailOf}
 use Rattle.primary.specs.Sending.{pieces_of_base}
-use Rattle.primary.specs.Steps.{based}
 use Rattle.primary.proofs.Cut.{pieces-stay}
 use Rattle.primary.proofs.Streams.{numbered-push}
 
@@ -76,27 +73,3 @@ lists-stay versions now tail new pieces durable workers kept is same framed = re
       ∙ ap (λ b. map spelling (pieces_of_base (shape_of versions.schema) versions.commits b)) (sym same)
       ∙ ap (λ (h : VersionList). map spelling (pieces_of_base (shape_of h.schema) h.commits new.base)) (sym is);
 }
-
--- lists whose base is what is durable
-pub lists-based : (versions : VersionList) (tail new : Tail) (pieces packets : List (List ℕ)) (durable workers : ℕ)
-    → AreLists versions tail pieces durable workers → new.base ≡ durable → IsTailOf new versions.commits
-    → packets ≡ map spelling (pieces_of_base (shape_of versions.schema) versions.commits durable)
-    → AreLists versions new packets durable workers
-lists-based versions tail new pieces packets durable workers kept same framed spelled = record {
-  some_workers = kept.some_workers;
-  few_workers = kept.few_workers;
-  within = kept.within;
-  based = omega (arith, same);
-  numbered = kept.numbered;
-  each = kept.each;
-  records = kept.records;
-  framed = framed;
-  spelled = spelled ∙ ap (λ b. map spelling (pieces_of_base (shape_of versions.schema) versions.commits b)) (sym same);
-}
-
--- the primary on that base
-pub based-is : (versions : VersionList) (durable workers : ℕ) (failed : Bool) (base new : ℕ) → new ≡ durable
-    → durable ≤ length versions.commits
-    → primary_of versions durable workers failed new ≡ based (primary_of versions durable workers failed base)
-based-is versions durable workers failed base new same within =
-    ap (primary_of versions durable workers failed) (same ∙ sym (length-take-le durable versions.commits within))

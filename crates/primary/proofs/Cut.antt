@@ -136,16 +136,6 @@ pub pieces-counted : (shape : Shape) (commits : List Commit) (base : ℕ) (packe
 pieces-counted shape commits base packets e =
     ap length e ∙ length-map (pieces_of_base shape commits base) spelling ∙ pieces-length base 0 (pieces_at shape commits base)
 
--- the packets of an image are those of its base
-pub image-packets : (shape : Shape) (commits : List Commit) (base : ℕ) (image : List Entry) (packets : List (List ℕ)) → 0 < base
-    → image ≡ image_of shape (tables_after shape commits base)
-    → packets ≡ map spelling (pieces_from base 0 (pieces_of image))
-    → packets ≡ map spelling (pieces_of_base shape commits base)
-image-packets shape commits base image packets some are spelled =
-    spelled
-    ∙ ap (λ entries. map spelling (pieces_from base 0 (pieces_of entries))) are
-    ∙ ap (λ pieces. map spelling (pieces_from base 0 pieces)) (sym (some-base shape commits base some))
-
 -- ---- cut one by one
 
 -- of an image that is not empty the pieces are its cut

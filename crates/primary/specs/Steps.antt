@@ -1,5 +1,5 @@
 -- One step of a primary: what a commit answers, and what it, a flush, a failed flush and a base leave.
-use Rattle.std.specs.Prelude.{ℕ, ◌+◌, ◌^◌, List, [], ◌∷◌, ◌++◌, length, take, drop, Bool, true, false, Result, Ok, Err, nat_lt, ◌==◌}
+use Rattle.std.specs.Prelude.{ℕ, ◌+◌, ◌^◌, List, [], ◌∷◌, ◌++◌, length, max, take, drop, Bool, true, false, Result, Ok, Err, nat_lt, ◌==◌}
 use Rattle.std.specs.Prelude.{◌||◌, ◌&&◌, not}
 use Rattle.std.specs.Prelude.{if◌then◌else◌}
 use Rattle.rows.specs.declared.commit.Commit.{Commit}
@@ -72,3 +72,7 @@ failed_primary p = record p { failed = true }
 -- the primary whose base is what is durable
 abbrev pub based : Primary → Primary
 based p = record p { base = length p.durable }
+
+-- the primary on a base that was put in place; one that is not behind its own changes nothing
+abbrev pub based_at : Primary → ℕ → Primary
+based_at p base = record p { base = max p.base base }

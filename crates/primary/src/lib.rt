@@ -33,6 +33,7 @@ mod work;
 
 pub use done::Done;
 pub use faults::{CommitFault, FlushFault, StartFault};
+pub use pieces::piece_packets;
 pub use primary_core::PrimaryCore;
 pub use ticket::Ticket;
 pub use work::Work;

@@ -1,6 +1,6 @@
 //! The durable list and the pending list.
 
-ghost use Rattle.std.specs.Prelude.{◌≡◌, ◌<◌, ◌≤◌, ◌^◌, ◌++◌, ℕ, length, map, take, Ok, IfOk, IfErr, OnErr};
+ghost use Rattle.std.specs.Prelude.{◌≡◌, ◌<◌, ◌≤◌, ◌^◌, ◌++◌, ℕ, length, map, take, Ok, IfOk, IfErr, OnOk, OnErr};
 ghost use Rattle.std.specs.List.{AllByRecursion};
 ghost use Rattle.rows.specs.Faults.{IsFaultOf};
 ghost use Rattle.rows.specs.Limits.{workers_max};
@@ -12,7 +12,7 @@ ghost use Rattle.journal.specs.Text.{records_from};
 ghost use Rattle.wire.specs.Spelling.{IsAsk, HasDatagramSpelling, spelling};
 ghost use Rattle.primary.specs.Journaling.{AreNumbered, offered};
 ghost use Rattle.primary.specs.Sending.{low_of, pushed, wanted, frame_to, pieces_of_base, pulled, piece_to, head_for, answers};
-ghost use Rattle.primary.specs.Steps.{started_primary, commit_answer, committed, flushed, failed_primary, based};
+ghost use Rattle.primary.specs.Steps.{started_primary, commit_answer, committed, flushed, failed_primary, based, based_at};
 
 use crate::faults::CommitFault;
 use crate::judging::judge;
@@ -219,18 +219,40 @@ impl Lists {
             × (taken.1 ≡ length (pieces_of_base (shape_of self.new.schema) self.new.durable self.new.base))) }
         ensures err { OnErr result ((self.new ≡ self.old) × (self.old.base < length self.old.durable)) }
     {
-        let base = self.durable as u64;
         if self.tail.base < self.durable {
             rows::laws::images_rebuild_tables();
             self.versions.schema().keeps_limits();
+            let base = self.durable as u64;
             let image = self.versions.image(base)?;
             let pieces = piece_packets(self.alloc, base, &image)?;
+            self.put_base(base, pieces)?;
+        }
+        Ok(self.base())
+    }
+
+    /// Puts a base in place, as `PrimaryCore::put_base` specifies.
+    pub fn put_base(&mut self, base: u64, pieces: Vec<Packet>) -> Result<(), AllocError>
+        requires within { base ≤ length self.old.durable }
+        requires pieces { pieces.items ≡ map spelling (pieces_of_base (shape_of self.old.schema) self.old.durable base) }
+        ensures ok { OnOk result (self.new ≡ based_at self.old base) }
+        ensures err { OnErr result ((self.new ≡ self.old) × (self.old.base < base)) }
+    {
+        let base = base as usize;
+        if self.tail.base < base {
             let commits = self.versions.commits();
-            let tail = self.tail.moved(self.alloc, commits, self.durable)?;
+            let tail = self.tail.moved(self.alloc, commits, base)?;
             self.pieces = pieces;
             self.tail = tail;
         }
-        Ok((base, self.pieces.as_slice().len() as u64))
+        Ok(())
+    }
+
+    /// The base, and how many pieces it has. Takes no memory.
+    pub fn base(&self) -> (u64, u64)
+        ensures base { result.0 ≡ self.now.base }
+        ensures pieces { result.1 ≡ length (pieces_of_base (shape_of self.now.schema) self.now.durable self.now.base) }
+    {
+        (self.tail.base as u64, self.pieces.as_slice().len() as u64)
     }
 
     /// How many frames of the worker are not kept, as `PrimaryCore::low` specifies.

@@ -1,6 +1,6 @@
 //! The primary's core: bytes and values in, bytes and values out.
 
-ghost use Rattle.std.specs.Prelude.{◌≡◌, ◌<◌, ◌≤◌, ◌^◌, ℕ, length, take, [], ◌++◌, true, false, Ok, IfOk, IfErr, OnOk, OnErr};
+ghost use Rattle.std.specs.Prelude.{◌≡◌, ◌<◌, ◌≤◌, ◌^◌, ℕ, length, map, take, [], ◌++◌, true, false, Ok, IfOk, IfErr, OnOk, OnErr};
 ghost use Rattle.std.specs.Prelude.{is_some, is_none};
 ghost use Rattle.std.specs.List.{AllByRecursion};
 ghost use Rattle.rows.specs.Faults.{IsFaultOf};
@@ -14,10 +14,10 @@ ghost use Rattle.journal.specs.Text.{records_from};
 ghost use Rattle.primary.specs.Journaling.{IsWritten, IsFormOf, IsUnchanged, offered, IsFlushRefusal, StandsAfterFlush, CountsFlushFault};
 ghost use Rattle.primary.specs.Journaling.{IsKeptOf, KeepsSame, IsStartRefusal, TellsRefusal, LeavesBytes, CountsStartFault, AreNumbered};
 ghost use Rattle.primary.specs.Lending.{IsLentBy, EndsWritten, ended, end_answer};
-ghost use Rattle.wire.specs.Spelling.{HasDatagramSpelling};
+ghost use Rattle.wire.specs.Spelling.{HasDatagramSpelling, spelling};
 ghost use Rattle.primary.specs.Sending.{low_of, pushed, pieces_of_base, answers};
 ghost use Rattle.primary.specs.State.{is_honest_in, standing_in, faults_in};
-ghost use Rattle.primary.specs.Steps.{started_primary, commit_answer, committed, flushed, based};
+ghost use Rattle.primary.specs.Steps.{started_primary, commit_answer, committed, flushed, based, based_at};
 
 use crate::done::Done;
 use crate::faults::{CommitFault, FlushFault, StartFault};
@@ -266,7 +266,7 @@ impl<J: JournalStore> PrimaryCore<J> {
     }
 
     /// Makes what is durable the base: the tables after those commits are kept in pieces, and the
-    /// frames of those commits are not kept any more, so their memory is free again. Answers the base,
+    /// frames of those commits are not kept any more, so what their streams took is free again. Answers the base,
     /// which is how many commits are durable, and how many pieces it has. At the base that the
     /// primary has already nothing is done. A base may be taken while commits are pending, while the
     /// journal is lent out, and after it has failed.
@@ -283,6 +283,35 @@ impl<J: JournalStore> PrimaryCore<J> {
         ensures written { IsWritten J.is_honest J.standing self.old → IsWritten J.is_honest J.standing self.new }
     {
         self.lists.take_base()
+    }
+
+    /// Puts a base in place whose pieces were made apart from the primary, from the image of the tables
+    /// after the first `base` durable commits (`piece_packets`): these pieces are kept, and the frames of
+    /// those commits are not kept any more. If the base is not behind the one that the primary has,
+    /// nothing is done. A base may be put in place whenever one may be taken.
+    ///
+    /// It costs a look at each commit behind the base. Fails only if out of memory, and then nothing has
+    /// changed.
+    pub fn put_base(&mut self, base: u64, pieces: Vec<Packet>) -> Result<(), AllocError>
+        requires within { base ≤ length self.old.primary.durable }
+        requires pieces { pieces.items
+            ≡ map spelling (pieces_of_base (shape_of self.old.primary.schema) self.old.primary.durable base) }
+        ensures ok { OnOk result (self.new.primary ≡ based_at self.old.primary base) }
+        ensures err { OnErr result ((self.new.primary ≡ self.old.primary) × (self.old.primary.base < base)) }
+        ensures journal { self.new.journal ≡ self.old.journal }
+        ensures form { self.new.form ≡ self.old.form }
+        ensures written { IsWritten J.is_honest J.standing self.old → IsWritten J.is_honest J.standing self.new }
+    {
+        self.lists.put_base(base, pieces)
+    }
+
+    /// The base, 0 before one is taken, and how many pieces it has. Takes no memory.
+    pub fn base(&self) -> (u64, u64)
+        ensures base { result.0 ≡ self.now.primary.base }
+        ensures pieces { result.1 ≡ length
+            (pieces_of_base (shape_of self.now.primary.schema) self.now.primary.durable self.now.primary.base) }
+    {
+        self.lists.base()
     }
 
     /// How many frames of the worker are not kept: those of the commits up to the base. Takes no
