@@ -9,7 +9,8 @@ ghost use Rattle.journal.specs.Recovery.{IsJournaled};
 ghost use Rattle.primary.specs.Journaling.{IsUnchanged, IsFlushRefusal};
 ghost use Rattle.primary.specs.Lending.{IsLentBy, EndsWritten, ended};
 ghost use Rattle.primary.specs.Sending.{pushed, answers, pieces_of_base};
-ghost use Rattle.primary.specs.Steps.{commit_answer, committed, based};
+ghost use Rattle.primary.specs.Steps.{commit_answer, committed, based_at};
+ghost use Rattle.wire.specs.Spelling.{spelling};
 ghost use Rattle.desk.specs.Answers.{IsCommitRefusal, IsFlushed, TellsDurable, IsSettled, Stands, left_to_flush};
 ghost use Rattle.desk.specs.Answers.{primary_of, packet_at, row_of, kept_from, IsBaseOf, IsReadable};
 ghost use Rattle.desk.specs.Keeping.{IsKept, commit_count};
@@ -346,30 +347,43 @@ impl<L: Origin, J: JournalStore, R: Wait + Drop> Desk<L, J, R> {
         self.core.on_bytes(bytes)
     }
 
-    /// Publishes what is durable, shows it to the seat, and makes it the core's base: answers the base,
-    /// which is how many commits are durable, and how many pieces it has.
+    /// Publishes what is durable, and shows it to the seat, before a base is made of it. Answers the base
+    /// and how many pieces it has if it is the core's base already; otherwise `None`: the pieces are to be
+    /// made (`Seat::base_pieces`), for which the lock can be released, and put in place (`put_base`).
     ///
-    /// Fails only if out of memory; the core is then unchanged.
-    pub fn take_base(&mut self, seat: &mut Seat<L>) -> Result<(u64, u64), AllocError>
+    /// Fails only if out of memory.
+    pub fn open_base(&mut self, seat: &mut Seat<L>) -> Result<Option<(u64, u64)>, AllocError>
         ensures legal { IsJournaled L.workers (shape_of L.schema) seat.new.list }
-        ensures ok { IfOk result (λ taken. (seat.new.list ≡ self.new.core.primary.durable)
-            × (self.new.core.primary ≡ based self.old.core.primary) × (self.new.shown ≡ self.new.core.primary.durable)) }
-        ensures base { IfOk result (λ taken. taken.0 ≡ length seat.new.list) }
-        ensures pieces { IfOk result (λ taken. taken.1 ≡ length (pieces_of_base (shape_of L.schema) seat.new.list taken.0)) }
-        ensures err { OnErr result (self.new.core ≡ self.old.core) }
-        ensures kept { self.new ≡ record self.old {
-          core = record self.old.core { primary = self.new.core.primary };
-          told = self.new.told;
-          shown = self.new.shown;
-        } }
+        ensures shown { OnOk result ((seat.new.list ≡ self.new.core.primary.durable)
+            × (self.new.shown ≡ self.new.core.primary.durable)) }
+        ensures stands { IfOk result (λ taken. IfSome taken (λ base. (self.new.core.primary.base ≡ length seat.new.list)
+            × (base ≡ (length seat.new.list, length (pieces_of_base (shape_of L.schema) seat.new.list (length seat.new.list)))))) }
         ensures later { IsPrefix seat.old.list seat.new.list }
         ensures seat { seat.new ≡ record seat.old { list = seat.new.list } }
+        ensures same { self.new ≡ record self.old { told = self.new.told; shown = self.new.shown } }
     {
-        let is_published = self.catch_up(seat);
-        if !is_published {
+        if !self.catch_up(seat) {
             return Err(AllocError);
         }
-        self.core.take_base()
+        let (base, pieces) = self.core.base();
+        if base == seat.len() {
+            return Ok(Some((base, pieces)));
+        }
+        Ok(None)
+    }
+
+    /// Puts the base of what the seat has seen in place, of which these are the pieces
+    /// (`Seat::base_pieces`). If the core has a later base, nothing is done.
+    ///
+    /// Fails only if out of memory; nothing has then changed.
+    pub fn put_base(&mut self, seat: &Seat<L>, pieces: Vec<Packet>) -> Result<(), AllocError>
+        requires { pieces.items ≡ map spelling (pieces_of_base (shape_of L.schema) seat.now.list (length seat.now.list)) }
+        ensures ok { OnOk result (self.new.core.primary ≡ based_at self.old.core.primary (length seat.now.list)) }
+        ensures err { OnErr result (self.new ≡ self.old) }
+        ensures kept { self.new ≡ record self.old { core = record self.old.core { primary = self.new.core.primary } } }
+    {
+        self.telling.confirm(&seat.reading);
+        self.core.put_base(seat.len(), pieces)
     }
 
     /// The core, if every seat that was given out is handed in: beyond the commits with which the

@@ -1,20 +1,28 @@
 //! A seat of a line.
 
-ghost use Rattle.std.specs.Prelude.{◌≡◌, ◌==◌, [], length, IfOk, IfErr};
+ghost use Rattle.std.specs.Prelude.{◌≡◌, ◌==◌, [], length, map, IfOk, IfErr};
 ghost use mathlib.Core.List.{IsPrefix};
 ghost use Rattle.rows.specs.Shape.{shape_of};
 ghost use Rattle.journal.specs.Recovery.{IsJournaled};
 ghost use Rattle.mvcc.specs.Transactions.{get_answer, insert_answer, set_answer, delete_answer, add_column_answer};
+ghost use Rattle.wire.specs.Spelling.{spelling};
+ghost use Rattle.primary.specs.Sending.{pieces_of_base};
 ghost use Rattle.published.specs.declared.faults.LineFault.TheVariants.{Unread};
 ghost use Rattle.published.specs.Answers.{IsAnswer, IsChange};
 
 use crate::origin::Origin;
 use mvcc::Transaction;
-use published::LineFault;
+use primary::piece_packets;
+use published::{ImageFault, LineFault};
 use rows::{RowId, Value};
 use std::alloc::Global;
 use std::marker::Model;
 use std::sync::ledger::Share;
+use wire::Packet;
+
+/// How many rows are gone over while what is published is entered for a part of an image: some
+/// milliseconds, for which whoever publishes waits.
+const IMAGE_PART_ROWS: usize = 10_000;
 
 /// A seat of a line: a reader of what is published, with the number under which its commits are
 /// recorded, the number of its newest ticket, and its share of the line's commits. One thread at a
@@ -176,6 +184,27 @@ impl<L: Origin> Seat<L> {
             transaction.old transaction.new result }
     {
         self.reading.add_column(transaction, table, default)
+    }
+
+    /// The pieces of the base of what the seat has seen, as they are sent (`Desk::put_base`); none if it
+    /// has seen no commit. The image is read part by part of what is published, so whoever publishes
+    /// meanwhile waits for one part at most. The seat has then seen what it had seen.
+    ///
+    /// Fails with `Unread` if what is published cannot be entered, or is shorter than what the seat has
+    /// seen; or with `Memory`.
+    pub fn base_pieces(&mut self, alloc: Global) -> Result<Vec<Packet>, ImageFault>
+        ensures legal { IsJournaled L.workers (shape_of L.schema) self.new.list }
+        ensures same { self.new ≡ self.old }
+        ensures pieces { IfOk result (λ pieces. pieces.items
+            ≡ map spelling (pieces_of_base (shape_of L.schema) self.old.list (length self.old.list))) }
+    {
+        let base = self.len();
+        self.keeps_legal();
+        if base == 0 {
+            return Ok(Vec::new(alloc));
+        }
+        let image = self.reading.image(alloc, IMAGE_PART_ROWS)?;
+        piece_packets(alloc, base, &image).map_err(|_| ImageFault::Memory)
     }
 
     /// Both seats take the longer of their lists. Takes no memory.

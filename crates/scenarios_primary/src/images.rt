@@ -1,7 +1,7 @@
 //! Images: the entries that rebuild the tables of each version.
 
 use crate::accounts::{Cell, is_absorbed, is_held, value_of, versions_of};
-use mvcc::Versions;
+use mvcc::{ImagePlace, Versions};
 use rows::{Entry, EntryList, Kind};
 use scenarios_common::wanted::{SIX, Table, Wanted, all_made};
 use std::alloc::Global;
@@ -235,5 +235,108 @@ fn is_made_at_last(alloc: Global) -> Result<bool, Fail> {
 #[test]
 fn an_image_without_memory_is_made_again(rt: HostRuntime) -> Result<(), Fail> {
     assert!(rt; is_made_at_last(rt.alloc())?);
+    Ok(())
+}
+
+/// As many parts as an image of the history has at most, one row each.
+const PARTS_MAX: usize = 64;
+
+/// What is done between two parts of an image: the next step of the history is absorbed, if there is
+/// one.
+fn absorb_step(alloc: Global, versions: &mut Versions, step: Option<&Step>) -> Result<(), Fail> {
+    let Some(step) = step else {
+        return Ok(());
+    };
+    let entries = entries_of(alloc, step)?;
+    if is_absorbed(versions, entries.as_slice())? {
+        Ok(())
+    } else {
+        Err("out of memory".into())
+    }
+}
+
+/// The image of a version, made in parts of so many rows; between them the next steps of the history
+/// are absorbed.
+fn image_in_parts(
+    alloc: Global,
+    versions: &mut Versions,
+    version: u64,
+    most: usize,
+    steps: &[Step],
+) -> Result<Vec<Entry>, Fail> {
+    let mut image = Vec::new(alloc);
+    let mut place = Some(ImagePlace::first());
+    for part in 0..PARTS_MAX {
+        if let Some(begin) = place {
+            place = versions.push_image_part(version, begin, most, &mut image)?;
+            absorb_step(alloc, versions, steps.get(part))?;
+        }
+    }
+    if place.is_some() {
+        return Err("an image in too many parts".into());
+    }
+    Ok(image)
+}
+
+/// Whether the image of a version of the history, in parts of so many rows, is the one that is shown:
+/// of the whole history, and where the later commits are absorbed between the parts.
+fn is_pictured_in_parts(
+    alloc: Global,
+    version: u64,
+    most: usize,
+    shown: &[Shown],
+) -> Result<bool, Fail> {
+    let mut whole = versions_of(alloc, &TABLES, &[])?;
+    absorb_history(alloc, &mut whole)?;
+    let image = image_in_parts(alloc, &mut whole, version, most, &[])?;
+    let (before, after) = HISTORY.split_at(version as usize);
+    let mut growing = versions_of(alloc, &TABLES, &[])?;
+    for step in before {
+        absorb_step(alloc, &mut growing, Some(step))?;
+    }
+    let meanwhile = image_in_parts(alloc, &mut growing, version, most, after)?;
+    Ok(are_shown(image.as_slice(), shown) && are_shown(meanwhile.as_slice(), shown))
+}
+
+/// The first version whose image in parts of so many rows is another than the one that is shown.
+fn other_in_parts(alloc: Global, most: usize) -> Result<Option<u64>, Fail> {
+    for (version, shown) in PICTURES.split_at(7).0 {
+        if !is_pictured_in_parts(alloc, *version, most, shown)? {
+            return Ok(Some(*version));
+        }
+    }
+    Ok(None)
+}
+
+/// Parts of no row have one.
+#[test]
+fn images_are_made_in_parts(rt: HostRuntime) -> Result<(), Fail> {
+    for most in [0, 1, 2, usize::MAX] {
+        assert_eq!(rt; other_in_parts(rt.alloc(), most)?, None);
+    }
+    Ok(())
+}
+
+/// How many entries the image of the newest version has from a place on, in one part, and whether
+/// another follows.
+fn counted_from(alloc: Global, table: u8, row: u64) -> Result<(usize, bool), Fail> {
+    let mut versions = versions_of(alloc, &TABLES, &[])?;
+    absorb_history(alloc, &mut versions)?;
+    let mut image = Vec::new(alloc);
+    let next = versions.push_image_part(5, ImagePlace { table, row }, usize::MAX, &mut image)?;
+    Ok((image.len(), next.is_some()))
+}
+
+/// From the last row of a table it is that row alone; from behind the tables there are, nothing.
+#[test]
+fn parts_begin_at_their_place(rt: HostRuntime) -> Result<(), Fail> {
+    let alloc = rt.alloc();
+    assert_eq!(rt; counted_from(alloc, 0, 0)?, (3, true));
+    assert_eq!(rt; counted_from(alloc, 0, 1)?, (2, true));
+    assert_eq!(rt; counted_from(alloc, 0, u64::MAX)?, (1, true));
+    assert_eq!(rt; counted_from(alloc, 1, 4)?, (0, true));
+    assert_eq!(rt; counted_from(alloc, 15, 0)?, (0, false));
+    assert_eq!(rt; counted_from(alloc, 16, 0)?, (0, false));
+    assert_eq!(rt; counted_from(alloc, u8::MAX, u64::MAX)?, (0, false));
     Ok(())
 }

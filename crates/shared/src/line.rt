@@ -26,6 +26,7 @@ use wire::{Out, Packet};
 /// `desk::specs::Keeping` specifies what holds under the lock each time it is taken.
 #[derive(Drop)]
 pub struct Line<L: Origin, J: JournalStore, R: Wait + Drop> {
+    alloc: Global,
     desk: Mutex<Desk<L, J, R>>,
     /// Notified each time a flush has ended.
     written: Condvar,
@@ -56,6 +57,7 @@ impl<L: Origin, J: JournalStore, R: Wait + Drop> Line<L, J, R> {
         } = start;
         match Desk::new(alloc, rt, core, opened, blank, seats) {
             Ok(desk) => Ok(Line {
+                alloc,
                 desk: Mutex::new(desk),
                 written: Condvar::new(),
             }),
@@ -192,8 +194,9 @@ impl<L: Origin, J: JournalStore, R: Wait + Drop> Line<L, J, R> {
 
     /// Publishes what is durable, and makes it the primary's base: the frames of these commits are
     /// dropped, and the tables after them are kept in pieces. Answers the base, which is how many
-    /// commits are durable, and how many pieces it has. It may wait; commits and flushes wait until
-    /// the pieces are made. Reads do not.
+    /// commits are durable, and how many pieces it has. It may wait. The pieces are made of what is
+    /// published while commits, flushes and reads go on, and only put in place under the lock; if another
+    /// call has taken a later base meanwhile, that one stays.
     ///
     /// Fails only if out of memory; the base is then the one before.
     pub fn take_base<W: Wait>(&self, rt: &W, seat: &mut Seat<L>) -> Result<(u64, u64), AllocError>
@@ -203,7 +206,16 @@ impl<L: Origin, J: JournalStore, R: Wait + Drop> Line<L, J, R> {
         ensures later { IsPrefix seat.old.list seat.new.list }
         ensures seat { seat.new ≡ record seat.old { list = seat.new.list } }
     {
-        self.desk.lock(rt).take_base(seat)
+        if let Some(taken) = self.desk.lock(rt).open_base(seat)? {
+            return Ok(taken);
+        }
+        // What is published can be read as long as the line is there, so only memory can be missing.
+        let Ok(pieces) = seat.base_pieces(self.alloc) else {
+            return Err(AllocError);
+        };
+        let taken = (seat.len(), pieces.as_slice().len() as u64);
+        self.desk.lock(rt).put_base(seat, pieces)?;
+        Ok(taken)
     }
 
     /// The primary, if every seat that was given out is handed in. Beyond the commits with which
@@ -214,11 +226,16 @@ impl<L: Origin, J: JournalStore, R: Wait + Drop> Line<L, J, R> {
         ensures ok { IfOk result (λ core. commit_count core.primary ≡ commit_count L.first + sum (map (λ seat. seat.share) seats.items)) }
         ensures missing { IfErr result (λ back. (back.1.items ≡ seats.items) × (length seats.items < L.seats)) }
     {
-        let Line { desk, written } = self;
+        let Line {
+            alloc,
+            desk,
+            written,
+        } = self;
         match desk.into_inner().end(seats) {
             Ok(core) => Ok(core),
             Err((desk, seats)) => Err((
                 Line {
+                    alloc,
                     desk: Mutex::new(desk),
                     written,
                 },
