@@ -289,7 +289,8 @@ fn is_pictured_in_parts(
     let mut whole = versions_of(alloc, &TABLES, &[])?;
     absorb_history(alloc, &mut whole)?;
     let image = image_in_parts(alloc, &mut whole, version, most, &[])?;
-    let (before, after) = HISTORY.split_at(version as usize);
+    let there = (version as usize).min(HISTORY.len());
+    let (before, after) = HISTORY.split_at(there);
     let mut growing = versions_of(alloc, &TABLES, &[])?;
     for step in before {
         absorb_step(alloc, &mut growing, Some(step))?;
