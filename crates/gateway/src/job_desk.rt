@@ -8,6 +8,8 @@ ghost use Rattle.gateway.specs.Jobs.{AnswersJobs, IsTicket, SettlesJobs, TakesJo
 
 use crate::answering::{answer, answer_later, answer_use_get, answer_use_post, wants_json};
 use crate::body::{BodyFault, jobs_of};
+use crate::node_facts::NodeFacts;
+use crate::reporting::{report_of, tell_report};
 use crate::row_path::{RowPath, row_path_of};
 use crate::row_reading::tell_row;
 use crate::taking::{Taken, take_each};
@@ -39,6 +41,8 @@ pub struct JobDesk<'a, L: Origin, J: JournalStore + Drop, H: Wait + Drop, T: Wai
     looking: Seat<L>,
     /// Whether a fault took back what requests of this round were told. Nothing of it is sent then.
     has_lost: bool,
+    /// What it tells of its node, and where it counts what it does.
+    facts: Option<&'a NodeFacts<'a>>,
 }
 
 impl<'a, L: Origin, J: JournalStore + Drop, H: Wait + Drop, T: Wait> Model
@@ -73,6 +77,17 @@ impl<'a, L: Origin, J: JournalStore + Drop, H: Wait + Drop, T: Wait> JobDesk<'a,
             job_seat: JobSeat::new(alloc, seat),
             looking,
             has_lost: false,
+            facts: None,
+        }
+    }
+
+    /// The same, which also tells these facts of its node, and counts what it does. Takes no memory.
+    pub fn with_facts(self, facts: &'a NodeFacts<'a>) -> JobDesk<'a, L, J, H, T>
+        ensures { result ≡ self.entry }
+    {
+        JobDesk {
+            facts: Some(facts),
+            ..self
         }
     }
 
@@ -95,8 +110,8 @@ impl<'a, L: Origin, J: JournalStore + Drop, H: Wait + Drop, T: Wait> JobDesk<'a,
     /// or has no job; 503 if memory was refused, and 500 if the journal failed: jobs may then be done.
     ///
     /// `GET /tables/NAME/ROW` answers the row at the newest durable version that is published, as a text or,
-    /// if `Accept` names it, as JSON; 404 if there is no such table or row. Any other path is answered 404,
-    /// another method 405.
+    /// if `Accept` names it, as JSON; 404 if there is no such table or row. `GET /status` and `GET /metrics` answer
+    /// what the desk tells of its node, if it has facts. Any other path is answered 404, another method 405.
     pub fn take(&mut self, request: &Request<Bytes>, response: &mut Response)
         requires { IsBlank response.old }
         ensures { AnswersJobs L.workers (shape_of L.schema) self.old request.now response.new self.new }
@@ -118,6 +133,18 @@ impl<'a, L: Origin, J: JournalStore + Drop, H: Wait + Drop, T: Wait> JobDesk<'a,
         requires { IsBlank response.old }
         ensures { self.new ≡ self.old }
     {
+        if let (Some(report), Some(facts)) = (report_of(path), self.facts) {
+            let method = request.method().as_str();
+            tell_report(
+                self.alloc,
+                &mut self.looking,
+                facts,
+                report,
+                method,
+                response,
+            );
+            return;
+        }
         match row_path_of(&self.setup.schema, path) {
             RowPath::Row(place) => {
                 let method = request.method().as_str();
@@ -187,10 +214,38 @@ impl<'a, L: Origin, J: JournalStore + Drop, H: Wait + Drop, T: Wait> JobDesk<'a,
         }
         match self.job_seat.settles(self.rt, self.line) {
             Ok(()) => {
+                self.note_round();
                 self.job_seat.clear();
                 true
             }
             Err(_) => false,
+        }
+    }
+
+    /// Counts a round that stands, if it has jobs, and what these were answered.
+    fn note_round(&self) {
+        let answers = self.job_seat.answers();
+        if let Some(facts) = self.facts
+            && !answers.is_empty()
+        {
+            facts.figures.note_round();
+            facts.figures.note_jobs(answers);
+        }
+    }
+
+    /// Counts an answer by its status.
+    fn note_answer(&self, response: &Response) {
+        if let Some(facts) = self.facts {
+            facts.figures.note_status(response.status.as_u16());
+        }
+    }
+
+    /// Notes how many connections there are, and for how many there was no place so far.
+    pub(crate) fn note_connections(&self, connections: usize, turned_away: u64) {
+        if let Some(facts) = self.facts {
+            facts
+                .figures
+                .note_connections(connections as u64, turned_away);
         }
     }
 }
@@ -268,6 +323,7 @@ impl<'a, L: Origin, H: Wait + Drop, T: Wait> Settle for JobDesk<'a, L, FileJourn
         response: &mut Response,
     ) -> Result<(), AllocError> {
         self.take(request, response);
+        self.note_answer(response);
         Ok(())
     }
 

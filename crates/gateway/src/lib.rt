@@ -10,22 +10,29 @@
 //! the entries that its steps make (`laws::what_is_told_stands`). Not promised: that the jobs are those
 //! of the body's lines, and what is told of a row; both are tested.
 //!
+//! A desk that is given `NodeFacts` also tells the status of its node and its figures, and counts what it does.
+//!
 //! `serve_jobs` serves the clients of a `Listening` so, in one thread, until it is over.
 //!
-//! It uses `sockets` for jobs at a seat, `requests` to read them, `http_server` for requests and answers,
-//! and `service` for connections. The definitions to review are `specs/Jobs.antt` and `Serving`.
+//! It uses `sockets` for jobs at a seat, `requests` to read them, `figures` for what is counted, `http_server`
+//! for requests and answers, and `service` for connections. The definitions to review are `specs/Jobs.antt` and `Serving`.
 #![tactic(auto)]
 
 mod answering;
 mod body;
 mod job_desk;
 pub mod laws;
+mod metrics_text;
+mod node_facts;
+mod reporting;
 mod row_path;
 mod row_reading;
 mod serving;
+mod status_text;
 mod taking;
 mod worker_count;
 
 pub use job_desk::JobDesk;
+pub use node_facts::NodeFacts;
 pub use serving::{Listening, ServingFault, serve_jobs};
 pub use worker_count::WorkerCount;

@@ -88,6 +88,7 @@ fn serve_on<'a, L: Origin, H: Wait + Drop, T: Wait + Clock>(
         if is_over.load(Ordering::SeqCst) {
             return Ok(());
         }
+        note_connections(house);
         match house.turn(rt) {
             Ok(()) => {}
             Err(HouseFault::Wait(error)) => return Err(ServingFault::System(error)),
@@ -95,4 +96,12 @@ fn serve_on<'a, L: Origin, H: Wait + Drop, T: Wait + Clock>(
         }
     }
     unreachable!()
+}
+
+/// Has a desk note how many connections there are.
+fn note_connections<'a, L: Origin, H: Wait + Drop, T: Wait>(
+    house: &House<JobDesk<'a, L, FileJournal, H, T>>,
+) {
+    let desk = house.service();
+    desk.note_connections(house.connections(), house.counts().refused);
 }

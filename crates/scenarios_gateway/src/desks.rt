@@ -70,7 +70,7 @@ pub fn answer_of<L: Origin, J: JournalStore + Drop, R: Wait>(
 }
 
 /// Whether a desk answers the requests of a round so, and then settles so.
-fn goes_so<L: Origin, J: JournalStore + Drop, R: Wait>(
+pub fn goes_so<L: Origin, J: JournalStore + Drop, R: Wait>(
     alloc: Global,
     desk: &mut JobDesk<'_, L, J, &R, R>,
     round: &Round,

@@ -9,3 +9,5 @@ mod failing;
 mod failures;
 #[cfg(test)]
 mod jobs;
+#[cfg(test)]
+mod reports;
