@@ -10,6 +10,7 @@ use primary::PrimaryCore;
 use script::Setup;
 use shared::{Line, Origin, Start};
 use std::alloc::Global;
+use std::fs::File;
 use std::marker::Brand;
 use std::sync::Wait;
 use std::test::Fail;
@@ -55,13 +56,24 @@ const STATUS: [Round; 3] = [
     ),
 ];
 
+/// What is told of a node without a journal in a file.
+fn facts_of<'a>(figures: &'a Figures) -> NodeFacts<'a> {
+    let journal: Option<&'a File> = None;
+    NodeFacts {
+        version: "1.2.3",
+        schema: "ab",
+        journal,
+        figures,
+    }
+}
+
 /// Whether a desk tells these, on a line of this primary.
-fn tells_so<L: Origin, J: JournalStore + Drop, R: Wait>(
-    rt: &R,
+fn tells_so<'a, L: Origin, J: JournalStore + Drop, R: Wait>(
+    rt: &'a R,
     alloc: Global,
     core: PrimaryCore<J>,
     start: Start,
-    setup: &Setup,
+    setup: &'a Setup,
 ) -> Option<bool>
     requires book { start.opened.seen.book ≡ L.book }
     requires schema { core.primary.schema ≡ L.schema }
@@ -78,12 +90,7 @@ fn tells_so<L: Origin, J: JournalStore + Drop, R: Wait>(
     };
     let seat = line.seat(rt)?;
     let looking = line.seat(rt)?;
-    let facts = NodeFacts {
-        version: "1.2.3",
-        schema: "ab",
-        journal: None,
-        figures: &figures,
-    };
+    let facts = facts_of(&figures);
     let workers = WorkerCount::new(count);
     let desk = JobDesk::new(rt, alloc, &line, setup, workers, seat, looking);
     let mut desk = desk.with_facts(&facts);
