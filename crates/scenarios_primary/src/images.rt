@@ -184,7 +184,30 @@ fn is_rebuilt(alloc: Global, image: &[Entry]) -> Result<bool, Fail> {
     Ok(again.as_slice() == image)
 }
 
-/// Whether the image of a version is the one that is shown.
+/// As many parts as an image of the history has at most, one row each.
+const PARTS_MAX: usize = 64;
+
+/// The image of a version, made in parts of so many rows; a part of no row has one.
+fn image_in_parts(
+    alloc: Global,
+    versions: &Versions,
+    version: u64,
+    most: usize,
+) -> Result<Vec<Entry>, Fail> {
+    let mut image = Vec::new(alloc);
+    let mut place = Some(ImagePlace::first());
+    for _ in 0..PARTS_MAX {
+        if let Some(begin) = place {
+            place = versions.push_image_part(version, begin, most, &mut image)?;
+        }
+    }
+    if place.is_some() {
+        return Err("an image in too many parts".into());
+    }
+    Ok(image)
+}
+
+/// Whether the image of a version is the one that is shown, made at once and in parts of 0 to 2 rows.
 fn is_pictured(
     alloc: Global,
     versions: &Versions,
@@ -192,6 +215,12 @@ fn is_pictured(
     shown: &[Shown],
 ) -> Result<bool, Fail> {
     let image = versions.image(version)?;
+    for most in 0..3 {
+        let joined = image_in_parts(alloc, versions, version, most)?;
+        if joined.as_slice() != image.as_slice() {
+            return Ok(false);
+        }
+    }
     Ok(are_shown(image.as_slice(), shown) && is_rebuilt(alloc, image.as_slice())?)
 }
 
@@ -238,106 +267,39 @@ fn an_image_without_memory_is_made_again(rt: HostRuntime) -> Result<(), Fail> {
     Ok(())
 }
 
-/// As many parts as an image of the history has at most, one row each.
-const PARTS_MAX: usize = 64;
+/// Where a part of the image of version 5 begins, how many entries it has that goes on to the end of its
+/// table, and whether another follows.
+static PARTS: [(u8, u64, usize, bool); 7] = [
+    (0, 0, 3, true),
+    (0, 1, 2, true),
+    (0, u64::MAX, 1, true),
+    (1, 4, 0, true),
+    (15, 0, 0, false),
+    (16, 0, 0, false),
+    (u8::MAX, u64::MAX, 0, false),
+];
 
-/// What is done between two parts of an image: the next step of the history is absorbed, if there is
-/// one.
-fn absorb_step(alloc: Global, versions: &mut Versions, step: Option<&Step>) -> Result<(), Fail> {
-    let Some(step) = step else {
-        return Ok(());
-    };
-    let entries = entries_of(alloc, step)?;
-    if is_absorbed(versions, entries.as_slice())? {
-        Ok(())
-    } else {
-        Err("out of memory".into())
-    }
-}
-
-/// The image of a version, made in parts of so many rows; between them the next steps of the history
-/// are absorbed.
-fn image_in_parts(
-    alloc: Global,
-    versions: &mut Versions,
-    version: u64,
-    most: usize,
-    steps: &[Step],
-) -> Result<Vec<Entry>, Fail> {
-    let mut image = Vec::new(alloc);
-    let mut place = Some(ImagePlace::first());
-    for part in 0..PARTS_MAX {
-        if let Some(begin) = place {
-            place = versions.push_image_part(version, begin, most, &mut image)?;
-            absorb_step(alloc, versions, steps.get(part))?;
-        }
-    }
-    if place.is_some() {
-        return Err("an image in too many parts".into());
-    }
-    Ok(image)
-}
-
-/// Whether the image of a version of the history, in parts of so many rows, is the one that is shown:
-/// of the whole history, and where the later commits are absorbed between the parts.
-fn is_pictured_in_parts(
-    alloc: Global,
-    version: u64,
-    most: usize,
-    shown: &[Shown],
-) -> Result<bool, Fail> {
-    let mut whole = versions_of(alloc, &TABLES, &[])?;
-    absorb_history(alloc, &mut whole)?;
-    let image = image_in_parts(alloc, &mut whole, version, most, &[])?;
-    let there = (version as usize).min(HISTORY.len());
-    let (before, after) = HISTORY.split_at(there);
-    let mut growing = versions_of(alloc, &TABLES, &[])?;
-    for step in before {
-        absorb_step(alloc, &mut growing, Some(step))?;
-    }
-    let meanwhile = image_in_parts(alloc, &mut growing, version, most, after)?;
-    Ok(are_shown(image.as_slice(), shown) && are_shown(meanwhile.as_slice(), shown))
-}
-
-/// The first version whose image in parts of so many rows is another than the one that is shown.
-fn other_in_parts(alloc: Global, most: usize) -> Result<Option<u64>, Fail> {
-    for (version, shown) in PICTURES.split_at(7).0 {
-        if !is_pictured_in_parts(alloc, *version, most, shown)? {
-            return Ok(Some(*version));
+/// The first part that has other entries, by its place among those above.
+fn other_part(alloc: Global) -> Result<Option<usize>, Fail> {
+    let mut versions = versions_of(alloc, &TABLES, &[])?;
+    absorb_history(alloc, &mut versions)?;
+    for (index, (table, row, count, goes_on)) in PARTS.iter().enumerate() {
+        let mut image = Vec::new(alloc);
+        let begin = ImagePlace {
+            table: *table,
+            row: *row,
+        };
+        let next = versions.push_image_part(5, begin, usize::MAX, &mut image)?;
+        if image.len() != *count || next.is_some() != *goes_on {
+            return Ok(Some(index));
         }
     }
     Ok(None)
 }
 
-/// Parts of no row have one.
-#[test]
-fn images_are_made_in_parts(rt: HostRuntime) -> Result<(), Fail> {
-    for most in [0, 1, 2, usize::MAX] {
-        assert_eq!(rt; other_in_parts(rt.alloc(), most)?, None);
-    }
-    Ok(())
-}
-
-/// How many entries the image of the newest version has from a place on, in one part, and whether
-/// another follows.
-fn counted_from(alloc: Global, table: u8, row: u64) -> Result<(usize, bool), Fail> {
-    let mut versions = versions_of(alloc, &TABLES, &[])?;
-    absorb_history(alloc, &mut versions)?;
-    let mut image = Vec::new(alloc);
-    let next = versions.push_image_part(5, ImagePlace { table, row }, usize::MAX, &mut image)?;
-    Ok((image.len(), next.is_some()))
-}
-
-/// From the last row of a table it is that row alone; from behind the tables there are, nothing.
+/// From the last row of a table on it is that row alone; from behind the tables that there are, nothing.
 #[test]
 fn parts_begin_at_their_place(rt: HostRuntime) -> Result<(), Fail> {
-    let alloc = rt.alloc();
-    assert_eq!(rt; counted_from(alloc, 0, 0)?, (3, true));
-    assert_eq!(rt; counted_from(alloc, 0, 1)?, (2, true));
-    assert_eq!(rt; counted_from(alloc, 0, u64::MAX)?, (1, true));
-    assert_eq!(rt; counted_from(alloc, 1, 4)?, (0, true));
-    assert_eq!(rt; counted_from(alloc, 15, 0)?, (0, false));
-    assert_eq!(rt; counted_from(alloc, 16, 0)?, (0, false));
-    assert_eq!(rt; counted_from(alloc, u8::MAX, u64::MAX)?, (0, false));
+    assert_eq!(rt; other_part(rt.alloc())?, None);
     Ok(())
 }
