@@ -1,5 +1,7 @@
 //! What a replica was told last.
 
+ghost use Rattle.std.specs.Prelude.{◌≡◌, ◌-◌, ◌<◌, None, Some};
+
 use std::sync::atomic::{AtomicU64, Ordering};
 
 /// Stands for a moment that has not come.
@@ -38,12 +40,20 @@ impl ReplicaFigures {
     /// What it was told last, if it was; seen from a moment.
     pub fn last_told(&self, now: u64) -> Option<LastTold> {
         let told_at = self.told_at.load(Ordering::SeqCst);
-        if told_at == NEVER {
-            return None;
-        }
-        Some(LastTold {
-            version: self.version.load(Ordering::SeqCst),
-            millis: now.saturating_sub(told_at),
-        })
+        told(self.version.load(Ordering::SeqCst), told_at, now)
     }
+}
+
+/// A version that was told at a moment, seen from another; `None` if that moment has not come.
+fn told(version: u64, told_at: u64, now: u64) -> Option<LastTold>
+    ensures never { told_at ≡ u64.MAX → result ≡ None }
+    ensures told { told_at < u64.MAX → result ≡ Some (record { version = version; millis = now - told_at }) }
+{
+    if told_at == NEVER {
+        return None;
+    }
+    Some(LastTold {
+        version,
+        millis: now.saturating_sub(told_at),
+    })
 }

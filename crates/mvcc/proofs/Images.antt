@@ -299,7 +299,8 @@ upto-head table from chains done rest key links sorted is =
     ∙ ap (filter (λ chain. nat_lt chain.0.1 key.1)) (sym is)
     ∙ below-head done key links rest
     (subst RowsRise (sym is)
-    (rise-filtered (λ chain. is_within from None chain.0.1) (chains_of table chains) (rows-rise table chains (sorted-rising chains sorted))))
+    (rise-filtered (λ chain. is_within from None chain.0.1) (chains_of table chains)
+    (rows-rise table chains (sorted-rising chains sorted))))
 
 from-on : (from : ℕ) (chains : Chains)
     → AllByRecursion (λ chain. nat_le from chain.0.1 ≡ true) (filter (λ chain. is_within from None chain.0.1) chains)
@@ -309,7 +310,8 @@ from-on from (chain ∷ chains) = by (nat_le from chain.0.1) refl (from-on from 
     by : (here : Bool) → nat_le from chain.0.1 ≡ here
         → AllByRecursion (λ other. nat_le from other.0.1 ≡ true) (filter (λ other. is_within from None other.0.1) chains)
         → AllByRecursion (λ other. nat_le from other.0.1 ≡ true)
-        (cond here (chain ∷ filter (λ other. is_within from None other.0.1) chains) (filter (λ other. is_within from None other.0.1) chains))
+        (cond here (chain ∷ filter (λ other. is_within from None other.0.1) chains)
+        (filter (λ other. is_within from None other.0.1) chains))
     by true e rest = (e, rest)
     by false e rest = rest
 
@@ -609,7 +611,8 @@ rows-found law rise back shape commits chains version table from next blank lega
     let alike : (r : ℕ) → look (filter (λ e. keep e.0) all) r ≡ look (filter (λ e. keep e.0) (listed rows)) r =
     λ r. kept-look keep all r ∙ by-keep (keep r) (look all r) (look (listed rows) r) (own r) ∙ sym (kept-look keep (listed rows) r) in
     ap (inserts_of table) (parts
-    ∙ same (filter (λ e. keep e.0) all) (filter (λ e. keep e.0) (listed rows)) (kept-up keep all (found-up version table blank chains rising))
+    ∙ same (filter (λ e. keep e.0) all) (filter (λ e. keep e.0) (listed rows))
+    (kept-up keep all (found-up version table blank chains rising))
     (kept-up keep (listed rows) (listed-up rows (rise shape commits version table))) alike
     ∙ sym (kept-listed keep rows))
     ∙ listed-inserts table (filter (λ row. keep row.0) rows)

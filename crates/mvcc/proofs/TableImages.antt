@@ -1,6 +1,7 @@
 -- The image of one table at a version, and of all tables from those of each.
 use Rattle.std.proofs.Common.{◌≡◌, ℕ, zero, suc, ◌+◌, ◌<◌, ◌≤◌, List, [], ◌∷◌, ◌++◌, length, map, take, drop, slice_get, Option, None, Some}
-use Rattle.std.proofs.Common.{true, false, Bool, cond, ◌&&◌, ◌==◌, nat_le, nat_lt, inl, inr, Result, Ok, Err, refl, sym, ap, ◌∙◌, arith, append_assoc}
+use Rattle.std.proofs.Common.{true, false, Bool, cond, ◌&&◌, ◌==◌, nat_le, nat_lt, inl, inr, Result, Ok, Err, refl, sym, ap, ◌∙◌}
+use Rattle.std.proofs.Common.{arith, append_assoc}
 use Rattle.std.specs.Prelude.{if◌then◌else◌, IfSome, ◌-◌, ◌*◌, ◌^◌}
 use Rattle.std.specs.List.{flat_map, filter, AllByRecursion}
 use Rattle.std.specs.Option.{option_map, option_map_or, unwrap_or}
@@ -112,7 +113,8 @@ no-part shape tables table from next none =
 
 pub one-part : (shape : Shape) (tables : Tables) (table from : ℕ) (next : Option ℕ) (kinds : List Kind)
     → Some kinds ≡ slice_get (shape_in tables) table
-    → begun table from (length (kinds_in shape table)) kinds ++ rows_image table (filter (λ row. is_within from next row.0) (rows_of tables table))
+    → begun table from (length (kinds_in shape table)) kinds
+    ++ rows_image table (filter (λ row. is_within from next row.0) (rows_of tables table))
     ≡ table_part shape tables table from next
 one-part shape tables table from next kinds there =
     by (slice_get tables table) (there ∙ slice_get-map (λ (own : Table). own.kinds) tables table)
@@ -123,7 +125,8 @@ one-part shape tables table from next kinds there =
         ≡ option_map_or (table_between table from next (kinds_in shape table)) found []
     by None e = absurd cc
     by (Some own) e =
-        ap (λ (columns : List Kind). begun table from (length (kinds_in shape table)) columns ++ rows_image table (within from next own.rows))
+        ap (λ (columns : List Kind). begun table from (length (kinds_in shape table)) columns
+        ++ rows_image table (within from next own.rows))
         (same_Some kinds own.kinds e)
 
 -- ---- what is left behind a part
@@ -191,7 +194,8 @@ part-rest shape tables table from next rise less = by (slice_get tables table) r
     opened = kinds_in shape table
 
     by : (found : Option Table) → Rise (option_map_or (λ own. own.rows) found [])
-        → option_map_or (table_between table from (Some next) opened) found [] ++ (option_map_or (table_rest table next opened) found [] ++ others)
+        → option_map_or (table_between table from (Some next) opened) found []
+        ++ (option_map_or (table_rest table next opened) found [] ++ others)
         ≡ option_map_or (table_rest table from opened) found [] ++ others
     by None rises = refl
     by (Some own) rises =
@@ -211,7 +215,8 @@ part-rest shape tables table from next rise less = by (slice_get tables table) r
 -- the images of the tables from one on are what is left from its row 0 on
 from-table : (shape : Shape) (number : ℕ) (tables : Tables) (n : ℕ)
     → image_from shape number (drop n tables)
-    ≡ option_map_or (table_image number (kinds_in shape number)) (slice_get tables n) [] ++ image_from shape (number + 1) (drop (suc n) tables)
+    ≡ option_map_or (table_image number (kinds_in shape number)) (slice_get tables n) []
+    ++ image_from shape (number + 1) (drop (suc n) tables)
 from-table shape number [] zero = refl
 from-table shape number [] (suc n) = refl
 from-table shape number (table ∷ tables) zero = refl

@@ -1,5 +1,6 @@
 -- What is left behind a part of a table is the rest of this table and the tables behind it; no schema has more than 16.
-use Rattle.std.proofs.Common.{◌≡◌, ◌≤◌, ◌<◌, ◌+◌, ◌++◌, List, [], ℕ, Option, None, Some, IfSome, length, drop, sym, subst, ap, ◌∙◌, arith, append_assoc}
+use Rattle.std.proofs.Common.{◌≡◌, ◌≤◌, ◌<◌, ◌+◌, ◌++◌, List, [], ℕ, Option, None, Some, IfSome, length, drop}
+use Rattle.std.proofs.Common.{sym, subst, ap, ◌∙◌, arith, append_assoc}
 use Rattle.rows.specs.declared.entry.Entry.{Entry}
 use Rattle.rows.specs.Image.{image_from}
 use Rattle.rows.specs.Shape.{shape_of}

@@ -1,5 +1,6 @@
 -- From row 0 on the added columns, and then the rows that the chains have at the version.
-use Rattle.std.proofs.Common.{◌≡◌, ◌≤◌, ◌++◌, ◌==◌, List, [], ℕ, Option, None, true, false, length, take, drop, sym, subst, ap, ◌∙◌, arith, append-nil, append_assoc}
+use Rattle.std.proofs.Common.{◌≡◌, ◌≤◌, ◌++◌, ◌==◌, List, [], ℕ, Option, None, true, false, length, take, drop}
+use Rattle.std.proofs.Common.{sym, subst, ap, ◌∙◌, arith, append-nil, append_assoc}
 use Rattle.std.specs.List.{filter}
 use Rattle.std.specs.Option.{unwrap_or}
 use Rattle.std.proofs.lemmas.Bool.{cond-true, cond-false}
@@ -79,7 +80,8 @@ columns-there c kinds is =
           let first : (c.args.from == 0) ≡ true = grind (arith, nat_tests, w.if-from-eq0.true) in
           rw w.image-is
           (w.in_ok-push_columns.ensures ∙ ap (λ (own : List Kind). items ++ columns_image c.args.table own) added
-          ∙ ap (λ (own : List Entry). items ++ own) (sym (cond-true (c.args.from == 0) (columns_image c.args.table (drop opened kinds)) [] first)))
+          ∙ ap (λ (own : List Entry). items ++ own)
+          (sym (cond-true (c.args.from == 0) (columns_image c.args.table (drop opened kinds)) [] first)))
       | else-from-eq0 w ↦
           let later : (c.args.from == 0) ≡ false = grind (arith, nat_tests, w.if-from-eq0.false) in
           rw w.image-is

@@ -82,6 +82,7 @@ returns-clause-spelled g c =
     let shape = shape_of g.L.Line.schema in
     let front = c.self.inside.front in
     let tables : AreTables shape =
-    subst (λ (place : Option ImagePlace). MatchOption place (AreTables shape) (λ _. Unit {0})) c.in_default.is c.loop-place.invariant.tables in
+    subst (λ (place : Option ImagePlace). MatchOption place (AreTables shape) (λ _. Unit {0})) c.in_default.is
+    c.loop-place.invariant.tables in
     subst (AllByRecursion HasSpelling) (sym (whole-image g c))
     (c.images_rebuild_tables.ensures.spelled shape front (length front) tables (records-spelled front c.self.invariant.1.records))
