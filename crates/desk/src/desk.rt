@@ -358,6 +358,7 @@ impl<L: Origin, J: JournalStore, R: Wait + Drop> Desk<L, J, R> {
             × (self.new.shown ≡ self.new.core.primary.durable)) }
         ensures stands { IfOk result (λ taken. IfSome taken (λ base. (self.new.core.primary.base ≡ length seat.new.list)
             × (base ≡ (length seat.new.list, length (pieces_of_base (shape_of L.schema) seat.new.list (length seat.new.list)))))) }
+        ensures missing { IfOk result (λ taken. taken ≡ None → ¬ (self.new.core.primary.base ≡ length seat.new.list)) }
         ensures later { IsPrefix seat.old.list seat.new.list }
         ensures seat { seat.new ≡ record seat.old { list = seat.new.list } }
         ensures same { self.new ≡ record self.old { told = self.new.told; shown = self.new.shown } }
