@@ -277,4 +277,7 @@ places_left place = option_map_or (λ at. (tables_max + 1) * 2 ^ 64 - (at.table 
 pub fewer-places : (before : ImagePlace) (next : Option ImagePlace) → before.table < tables_max → before.row < 2 ^ 64
     → IfSome next (IsLaterPlace before) → places_left next < places_left (Some before)
 fewer-places before None table row later = omega (arith, table, row)
-fewer-places before (Some next) table row later = omega (arith, table, row, later.later)
+fewer-places before (Some next) table row later = elim later.later [
+  | inl less ↦ omega (arith, table, row, less)
+  | inr same ↦ omega (arith, table, row, same.0, same.1)
+]

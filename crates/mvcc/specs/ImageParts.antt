@@ -1,5 +1,5 @@
 -- The image of a version, made part by part.
-use Rattle.std.specs.Prelude.{ℕ, ◌+◌, ◌*◌, ◌^◌, ◌<◌, ◌==◌, nat_le, List, [], ◌++◌, drop, length, Option, None, Some, slice_get}
+use Rattle.std.specs.Prelude.{◌≡◌, ◌⊎◌, ℕ, ◌+◌, ◌^◌, ◌<◌, ◌==◌, nat_le, List, [], ◌++◌, drop, length, Option, None, Some, slice_get}
 use Rattle.std.specs.Prelude.{if◌then◌else◌}
 use Rattle.std.specs.List.{filter}
 use Rattle.std.specs.Option.{option_map_or}
@@ -29,4 +29,4 @@ image_rest shape tables (Some place) =
 pub record IsLaterPlace (before place : ImagePlace) : Type 0 where
   pub table : place.table < tables_max
   pub row : place.row < 2 ^ 64
-  pub later : before.table * 2 ^ 64 + before.row < place.table * 2 ^ 64 + place.row
+  pub later : (before.table < place.table) ⊎ ((place.table ≡ before.table) × (before.row < place.row))
