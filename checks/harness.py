@@ -3,12 +3,17 @@ this word:
 
     [PROGRAM]      another program than crates/batchdb/out/batchdb
 
-checks/hostile and checks/faults also share tallies, stories, nodes, and the test of what a journal kept. They take more words:
+checks/hostile, checks/faults and checks/http also share tallies, stories, nodes, and the test of what a journal kept. They take more
+words:
 
     --only PART    one part alone
     --few          a twentieth of the inputs, for a quick look
     --jobs N       how many processes at once; as many as there are processors if not given
     --shown N      how many failures of a part are shown
+
+checks/page takes one more:
+
+    --pictures FOLDER    a folder into which pictures of the pages are written
 """
 
 import argparse
@@ -33,11 +38,13 @@ ROOT = os.path.dirname(os.path.dirname(os.path.abspath(__file__)))
 PARSER = argparse.ArgumentParser()
 PARSER.add_argument("program", nargs="?", default=f"{ROOT}/crates/batchdb/out/batchdb")
 # These checks have so many inputs that they are divided into parts.
-if os.path.basename(sys.argv[0]) in ("hostile", "faults"):
+if os.path.basename(sys.argv[0]) in ("hostile", "faults", "http"):
     PARSER.add_argument("--only", metavar="PART", help="one part alone")
     PARSER.add_argument("--few", action="store_true", help="a twentieth of the inputs, for a quick look")
     PARSER.add_argument("--jobs", type=int, default=len(os.sched_getaffinity(0)), metavar="N", help="how many processes at once")
     PARSER.add_argument("--shown", type=int, default=5, metavar="N", help="how many failures of a part are shown")
+if os.path.basename(sys.argv[0]) == "page":
+    PARSER.add_argument("--pictures", metavar="FOLDER", help="a folder into which pictures of the pages are written")
 WORDS = PARSER.parse_args()
 PROGRAM = os.path.abspath(WORDS.program)
 FEW = 20
@@ -257,15 +264,15 @@ class Lines:
 
 
 class Node:
-    """A program that runs in the background; it is killed at the end."""
+    """A program that runs in the background; it is killed at the end, or after this many seconds."""
 
-    def __init__(self, *words, limit="-c 0", **more):
+    def __init__(self, *words, limit="-c 0", front=(), seconds=SECONDS_MAX, **more):
         # One arena: the C library sets aside 64 MB for each other one, which would hide what a number takes.
         more.setdefault("env", {**os.environ, "MALLOC_ARENA_MAX": "1"})
         pipes = {name: subprocess.PIPE for name in ("stdin", "stdout", "stderr")}
-        limited = ["sh", "-c", f'ulimit {limit}; exec "$0" "$@"', PROGRAM, *words]
+        limited = [*front, "sh", "-c", f'ulimit {limit}; exec "$0" "$@"', PROGRAM, *words]
         self.process = subprocess.Popen(limited, text=True, bufsize=1, **{**pipes, **more})
-        self.watch = threading.Timer(SECONDS_MAX, self.process.kill)
+        self.watch = threading.Timer(seconds, self.process.kill)
         self.watch.start()
         self.output, self.errors = Lines(self.process.stdout), Lines(self.process.stderr)
         self.taken = 0

@@ -24,6 +24,8 @@ pub struct PrimaryWords<'a> {
     pub replicas: Vec<SocketAddr>,
     /// Whether jobs are taken while it serves.
     pub is_live: bool,
+    /// Where clients are served over HTTP.
+    pub http: Option<SocketAddr>,
     pub pace: Pace,
 }
 
@@ -37,6 +39,8 @@ pub struct ReplicaWords<'a> {
     pub primary: SocketAddr,
     /// Whether batches are taken while it serves.
     pub is_live: bool,
+    /// Where clients are served over HTTP.
+    pub http: Option<SocketAddr>,
     pub pace: Pace,
 }
 
@@ -153,6 +157,7 @@ const COMMANDS: &[(&str, &[(&str, Form)])] = &[
             ("REPLICA", Form::Words),
             ("turns", Form::Option),
             ("live", Form::Flag),
+            ("http", Form::Option),
             ("say", Form::Flag),
         ],
     ),
@@ -167,6 +172,7 @@ const COMMANDS: &[(&str, &[(&str, Form)])] = &[
             ("turns", Form::Option),
             ("wait", Form::Option),
             ("live", Form::Flag),
+            ("http", Form::Option),
             ("say", Form::Flag),
         ],
     ),
@@ -246,12 +252,14 @@ fn asked_by<'a>(alloc: Global, matches: &ArgMatches<'a>) -> Result<Asking<'a>, F
 }
 
 fn primary_words<'a>(alloc: Global, words: &ArgMatches<'a>) -> Result<PrimaryWords<'a>, Failure> {
+    let is_live = words.get_flag("live");
     Ok(PrimaryWords {
         schema: given(alloc, words, "SCHEMA")?,
         journal: given(alloc, words, "JOURNAL")?,
         listen: address(alloc, words, "LISTEN")?,
         replicas: addresses(alloc, words)?,
-        is_live: words.get_flag("live"),
+        is_live,
+        http: http(alloc, words, is_live)?,
         pace: Pace {
             turns: turns(alloc, words, Some(TURNS))?,
             wait: None,
@@ -269,13 +277,15 @@ fn replica_words<'a>(alloc: Global, words: &ArgMatches<'a>) -> Result<ReplicaWor
         words,
         if wait.is_some() { None } else { Some(TURNS) },
     )?;
+    let is_live = words.get_flag("live");
     Ok(ReplicaWords {
         schema: given(alloc, words, "SCHEMA")?,
         number: number(alloc, "NUMBER", given(alloc, words, "NUMBER")?)?,
         boot: number(alloc, "BOOT", given(alloc, words, "BOOT")?)?,
         listen: address(alloc, words, "LISTEN")?,
         primary: address(alloc, words, "PRIMARY")?,
-        is_live: words.get_flag("live"),
+        is_live,
+        http: http(alloc, words, is_live)?,
         pace: Pace {
             turns,
             wait,
@@ -348,6 +358,24 @@ fn addresses(alloc: Global, words: &ArgMatches<'_>) -> Result<Vec<SocketAddr>, F
         }
     }
     Ok(list)
+}
+
+/// Where clients are served over HTTP, if the words say so; only a live node serves any.
+fn http(
+    alloc: Global,
+    words: &ArgMatches<'_>,
+    is_live: bool,
+) -> Result<Option<SocketAddr>, Failure> {
+    let Some(word) = words.get_str("http") else {
+        return Ok(None);
+    };
+    if !is_live {
+        return Err(wrong(alloc, "--http", "not without --live"));
+    }
+    match read_address(word) {
+        Some(address) => Ok(Some(address)),
+        None => Err(wrong(alloc, "--http", word)),
+    }
 }
 
 /// The number that the word of that name is.

@@ -92,6 +92,12 @@ pub fn failure_of(alloc: Global, fault: NodeFault) -> Failure {
             Status::Failed,
             format!(in alloc; "batchdb: the system makes too few threads").ok(),
         ),
+        NodeFault::Clients(error) => Failure::new(
+            Status::Failed,
+            format!(in alloc; "batchdb: http: {error}").ok(),
+        ),
+        // Where the journal has not failed, memory was missing.
+        NodeFault::Unsettled => Failure::Memory,
         NodeFault::Broken => Failure::new(
             Status::Failed,
             format!(in alloc;

@@ -72,11 +72,18 @@ pub fn setup_at<H: Files<File = File>>(rt: &H, alloc: Global, path: &str) -> Res
     ensures { IfOk result (λ setup. (0 < setup.workers) × (setup.workers ≤ workers_max) × (setup.replicas ≤ replicas_max)) }
 {
     let bytes = file_bytes(rt, alloc, path)?;
-    match read_settings(alloc, bytes.as_slice()) {
+    setup_in(alloc, bytes.as_slice(), path)
+}
+
+/// The settings of a schema file that has these bytes.
+pub fn setup_in(alloc: Global, bytes: &[u8], path: &str) -> Result<Setup, Failure>
+    ensures { IfOk result (λ setup. (0 < setup.workers) × (setup.workers ≤ workers_max) × (setup.replicas ≤ replicas_max)) }
+{
+    match read_settings(alloc, bytes) {
         Ok(setup) => limited(alloc, setup, path),
         Err(ScriptFault::Memory) => Err(Failure::Memory),
         Err(fault @ ScriptFault::At { line, .. }) => {
-            let misread = misread_settings(alloc, bytes.as_slice(), line);
+            let misread = misread_settings(alloc, bytes, line);
             Err(unread(alloc, path, fault, &misread))
         }
     }

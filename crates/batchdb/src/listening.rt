@@ -59,7 +59,7 @@ pub fn socket_failure(alloc: Global, port: &UdpPort) -> Failure {
 }
 
 /// What failed at an address, and why.
-fn at_address(alloc: Global, address: SocketAddr, why: Option<String>) -> Failure {
+pub fn at_address(alloc: Global, address: SocketAddr, why: Option<String>) -> Failure {
     match format!(in alloc; "{address}") {
         Ok(address) => failed(alloc, address.as_str(), why),
         Err(_) => Failure::Memory,

@@ -9,6 +9,7 @@
 #![tactic(auto)]
 
 mod addresses;
+mod clients;
 mod commands;
 mod demo;
 mod failure;

@@ -3,12 +3,14 @@
 ghost use Rattle.std.specs.Prelude.{◌≡◌, ◌<◌, ◌≤◌, IfOk};
 ghost use Rattle.rows.specs.Limits.{workers_max};
 
+use crate::clients::{Clients, DeskSeats, clients_at, run_with};
 use crate::commands::{PrimaryWords, wrong};
 use crate::failure::{Failure, failure_of};
-use crate::files::{failed, len_of, refused, setup_at};
+use crate::files::{failed, file_bytes, len_of, refused, setup_in};
 use crate::journal_file::{opened, recovering};
 use crate::journal_reading::{name_of, read_ahead};
 use crate::listening::{Addresses, listening, socket_failure};
+use figures::Figures;
 use journal::{FileFault, FileJournal, JournalFault};
 use nodes::{Host, NodeFault, Pace, Primary, Streams, Work, read_jobs, while_saying};
 use primary::{PrimaryCore, StartFault};
@@ -21,17 +23,19 @@ use std::fs::File;
 use std::io::{Read, Write};
 use std::marker::Brand;
 use std::net::Net;
+use std::random::RandomSource;
 use std::rt::{Clock, Files};
 use std::sync::Wait;
+use std::sync::atomic::AtomicBool;
 use std::thread::Threads;
 
-/// A seat for each worker, one to serve and one to look.
-const SEATS: u8 = WORKERS_MAX + 2;
+/// A seat for each worker, one to serve and one to look; and for clients over HTTP one for their jobs and one for rows.
+const SEATS: u8 = WORKERS_MAX + 4;
 
 /// Runs a primary: does the jobs of the input, and serves its replicas; live, it does so at once, and
-/// otherwise one after the other.
+/// otherwise one after the other. A live one also serves clients over HTTP, if it is to.
 pub fn run_primary<
-    T: Threads + Wait + Net + Files<File = File> + Clock + Sync,
+    T: Threads + Wait + Net + Files<File = File> + Clock + RandomSource + Sync,
     R: Read + Send,
     W: Write + Send,
     E: Write + Send,
@@ -40,7 +44,8 @@ pub fn run_primary<
     words: PrimaryWords<'_>,
     streams: &mut Streams<R, W, E>,
 ) -> Result<(), Failure> {
-    let setup = setup_at(host.rt, host.alloc, words.schema)?;
+    let schema = file_bytes(host.rt, host.alloc, words.schema)?;
+    let setup = setup_in(host.alloc, schema.as_slice(), words.schema)?;
     if words.replicas.len() > setup.replicas as usize {
         return Err(wrong(host.alloc, "REPLICA", "more than the schema has replicas"));
     }
@@ -59,6 +64,7 @@ pub fn run_primary<
         journal,
         listen,
         replicas,
+        http,
         pace,
         ..
     } = words;
@@ -67,12 +73,25 @@ pub fn run_primary<
         primary: None,
         replicas,
     };
+    let errors = &mut streams.errors;
+    let port = listening(host, addresses, pace.says, errors)?;
+    let clients = match http {
+        Some(address) => {
+            let schema = schema.as_slice();
+            Some(clients_at(host, address, schema, journal, pace.says, errors)?)
+        }
+        None => None,
+    };
+    let Ok(figures) = Figures::new(host.alloc, setup.replicas) else {
+        return Err(Failure::Memory);
+    };
     let work = Work {
         setup: &setup,
         jobs,
         pace,
+        figures: &figures,
     };
-    at_socket(host, journal, core, addresses, &work, streams)
+    at_port(host, journal, core, port, clients, &work, streams)
 }
 
 /// A primary on the journal at a path; it says what the journal keeps.
@@ -176,9 +195,9 @@ fn journal_failure(alloc: Global, path: &str, call: &str, fault: Option<FileFaul
     }
 }
 
-/// Has a primary do its work at a socket, on a line of its own.
-fn at_socket<
-    T: Threads + Wait + Net + Clock + Sync,
+/// Has a primary do its work at a socket, and serves its clients, on a line of its own.
+fn at_port<
+    T: Threads + Wait + Net + Clock + RandomSource + Sync,
     R: Read + Send,
     W: Write + Send,
     E: Write + Send,
@@ -186,14 +205,14 @@ fn at_socket<
     host: Host<'_, T>,
     path: &str,
     core: PrimaryCore<FileJournal>,
-    addresses: Addresses,
+    port: UdpPort,
+    clients: Option<Clients>,
     work: &Work<'_>,
     streams: &mut Streams<R, W, E>,
 ) -> Result<(), Failure>
     requires { core.primary.workers ≡ work.now.setup.now.workers }
 {
-    let port = listening(host, addresses, work.pace.says, &mut streams.errors)?;
-    match named(host, core, port, work, streams) {
+    match named(host, core, port, clients, work, streams) {
         Ok(()) => Ok(()),
         Err(Ended::Journal(fault)) => Err(journal_failure(host.alloc, path, "write", fault)),
         Err(Ended::Otherwise(failure)) => Err(failure),
@@ -210,10 +229,16 @@ enum Ended {
 }
 
 /// What a primary does on a new line.
-fn named<T: Threads + Wait + Clock + Sync, R: Read + Send, W: Write + Send, E: Write + Send>(
+fn named<
+    T: Threads + Wait + Net + Clock + RandomSource + Sync,
+    R: Read + Send,
+    W: Write + Send,
+    E: Write + Send,
+>(
     host: Host<'_, T>,
     core: PrimaryCore<FileJournal>,
     port: UdpPort,
+    clients: Option<Clients>,
     work: &Work<'_>,
     streams: &mut Streams<R, W, E>,
 ) -> Result<(), Ended>
@@ -222,13 +247,13 @@ fn named<T: Threads + Wait + Clock + Sync, R: Read + Send, W: Write + Send, E: W
     let Ok(start) = Start::new(SEATS) else {
         return Err(Ended::Otherwise(Failure::Memory));
     };
-    on_line::<Brand, T, R, W, E>(host, core, start, port, work, streams)
+    on_line::<Brand, T, R, W, E>(host, core, start, port, clients, work, streams)
 }
 
 /// What a primary does on a line.
 fn on_line<
     L: Origin + Send + Sync,
-    T: Threads + Wait + Clock + Sync,
+    T: Threads + Wait + Net + Clock + RandomSource + Sync,
     R: Read + Send,
     W: Write + Send,
     E: Write + Send,
@@ -237,6 +262,7 @@ fn on_line<
     core: PrimaryCore<FileJournal>,
     start: Start,
     port: UdpPort,
+    clients: Option<Clients>,
     work: &Work<'_>,
     streams: &mut Streams<R, W, E>,
 ) -> Result<(), Ended>
@@ -275,9 +301,24 @@ fn on_line<
         Ok(primary) => primary,
         Err(fault) => return Err(Ended::Otherwise(failure_of(host.alloc, fault))),
     };
-    match primary.run(host, &line, work, streams) {
+    let mut seats = None;
+    let ran = match clients {
+        Some(clients) => {
+            run_with(
+                host,
+                &line,
+                &mut primary,
+                work,
+                streams,
+                clients,
+                &mut seats,
+            )
+        }
+        None => primary.run(host, &line, work, streams, |_: &AtomicBool| Ok(())),
+    };
+    match ran {
         Ok(()) => Ok(()),
-        Err(fault) => Err(ended_by(host.alloc, fault, line, primary)),
+        Err(fault) => Err(ended_by(host.alloc, fault, line, primary, seats)),
     }
 }
 
@@ -287,17 +328,23 @@ fn publishing(alloc: Global, commits: u64) -> String {
     text.unwrap_or(String::new(alloc))
 }
 
-/// Why a primary ended that ended for a fault: of its journal or its socket, what the system told of it.
+/// Why a primary ended that ended for a fault: of its journal or its socket, what the system told of it. Clients were served at
+/// the last seats.
 fn ended_by<L: Origin, H: Wait + Drop>(
     alloc: Global,
     fault: NodeFault,
     line: Line<L, FileJournal, H>,
     primary: Primary<L, UdpPort>,
+    desk: Option<DeskSeats<L>>,
 ) -> Ended
     requires { L.parts ≡ L.seats }
 {
     match fault {
-        NodeFault::Journal => Ended::Journal(last_fault(alloc, line, primary)),
+        NodeFault::Journal => Ended::Journal(last_fault(alloc, line, primary, desk)),
+        NodeFault::Unsettled => match last_fault(alloc, line, primary, desk) {
+            Some(fault) => Ended::Journal(Some(fault)),
+            None => Ended::Otherwise(Failure::Memory),
+        },
         NodeFault::Socket => Ended::Otherwise(socket_failure(alloc, primary.server.port())),
         fault => Ended::Otherwise(failure_of(alloc, fault)),
     }
@@ -308,10 +355,15 @@ fn last_fault<L: Origin, H: Wait + Drop>(
     alloc: Global,
     line: Line<L, FileJournal, H>,
     primary: Primary<L, UdpPort>,
+    desk: Option<DeskSeats<L>>,
 ) -> Option<FileFault>
     requires { L.parts ≡ L.seats }
 {
-    let seats = primary.into_seats(alloc).ok()?;
+    let mut seats = primary.into_seats(alloc).ok()?;
+    if let Some(DeskSeats { jobs, rows }) = desk {
+        seats.push(jobs).ok()?;
+        seats.push(rows).ok()?;
+    }
     last_fault_of(line.end(seats).ok()?)
 }
 

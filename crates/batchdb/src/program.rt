@@ -23,6 +23,7 @@ use std::fs::File;
 use std::io;
 use std::io::{Read, Write};
 use std::net::Net;
+use std::random::RandomSource;
 use std::rt::{Clock, Files};
 use std::sync::Wait;
 use std::thread::Threads;
@@ -47,9 +48,9 @@ batchdb: a replicated engine for transactions and analytics
 Usage:
   batchdb sim [--echo] < SCRIPT   runs a script, and prints the answers to its events;
                                   with --echo each event is printed before its answers, after \"> \"
-  batchdb primary SCHEMA JOURNAL LISTEN [REPLICA]... [--turns N] [--live] [--say] < JOBS
+  batchdb primary SCHEMA JOURNAL LISTEN [REPLICA]... [--turns N] [--live [--http ADDRESS]] [--say] < JOBS
                                   does the jobs, prints a line for each, and then serves N turns
-  batchdb replica SCHEMA NUMBER BOOT LISTEN PRIMARY [--turns N] [--wait S] [--live] [--say] < BATCHES
+  batchdb replica SCHEMA NUMBER BOOT LISTEN PRIMARY [--turns N] [--wait S] [--live [--http ADDRESS]] [--say] < BATCHES
                                   prints the report of each batch of queries, and ends
   batchdb demo                    a primary and two replicas in one process
   batchdb journal SCHEMA JOURNAL [--dump [--from N] | --cut BYTES [--yes]] [--say]
@@ -69,6 +70,8 @@ Usage:
   --wait   how many seconds a replica waits for the answer to a batch; turns then have no limit,
            if --turns does not give one
   --live   takes jobs or batches as they come, while the node serves
+  --http   where a live node also takes jobs or batches over HTTP: an address as for LISTEN. Whoever
+           reaches it may do everything that the node does
   --say    reports on standard error what the node does, and once a second how far long work has
            come. If standard error is a terminal, the latter is reported anyway
 
@@ -102,7 +105,7 @@ pub enum ErrorStream {
 /// says why; a live node writes one for each line at fault. What a node is told to say, and at a terminal how far long work
 /// has come, is said there too.
 pub fn run_words<
-    T: Threads + Wait + Net + Files<File = File> + Clock + Sync,
+    T: Threads + Wait + Net + Files<File = File> + Clock + RandomSource + Sync,
     R: Read + Send,
     W: Write + Send,
     E: Write + Send,
@@ -134,7 +137,7 @@ pub fn run_words<
 /// Runs the program with these words. A node's input is waited for only for a moment at a time, so that a live
 /// node can end while nothing comes, and none is busy while its input would have to be waited for.
 pub fn answer<
-    T: Threads + Wait + Net + Files<File = File> + Clock + Sync,
+    T: Threads + Wait + Net + Files<File = File> + Clock + RandomSource + Sync,
     R: Read + Drop + Send,
     W: Write + Send,
     E: Write + Send,
@@ -263,7 +266,7 @@ fn refuse<E: Write>(alloc: Global, words: &[&str], errors: &mut E) -> u8
 
 /// Runs a node.
 fn run_node<
-    T: Threads + Wait + Net + Files<File = File> + Clock + Sync,
+    T: Threads + Wait + Net + Files<File = File> + Clock + RandomSource + Sync,
     R: Read + Send,
     W: Write + Send,
     E: Write + Send,
@@ -302,7 +305,7 @@ fn run_node<
 
 /// Runs a primary with the standard streams.
 fn primary_with<
-    T: Threads + Wait + Net + Files<File = File> + Clock + Sync,
+    T: Threads + Wait + Net + Files<File = File> + Clock + RandomSource + Sync,
     R: Read + Send,
     W: Write + Send,
     E: Write + Send,
@@ -324,7 +327,7 @@ fn primary_with<
 
 /// Runs a replica with the standard streams.
 fn replica_with<
-    T: Threads + Wait + Net + Files<File = File> + Clock + Sync,
+    T: Threads + Wait + Net + Files<File = File> + Clock + RandomSource + Sync,
     R: Read + Send,
     W: Write + Send,
     E: Write + Send,

@@ -23,6 +23,8 @@ pub struct Figures {
     lost: AtomicU64,
     /// How many milliseconds the node has served, as it was noted last.
     now: AtomicU64,
+    /// How many seconds there are since 1970, as it was noted last; 0 before.
+    date: AtomicU64,
     /// For each replica.
     replicas: Vec<ReplicaFigures>,
     /// For each status of `STATUSES`, how many requests were answered so.
@@ -31,6 +33,10 @@ pub struct Figures {
     rounds: AtomicU64,
     connections: AtomicU64,
     turned_away: AtomicU64,
+    /// The version of a replica's newest report, its reports, and the queries that these answer.
+    applied: AtomicU64,
+    batches: AtomicU64,
+    queries: AtomicU64,
 }
 
 impl Figures {
@@ -57,11 +63,15 @@ impl Figures {
             sent: AtomicU64::new(0),
             lost: AtomicU64::new(0),
             now: AtomicU64::new(0),
+            date: AtomicU64::new(0),
             replicas: Vec::new(alloc),
             answers: Vec::new(alloc),
             rounds: AtomicU64::new(0),
             connections: AtomicU64::new(0),
             turned_away: AtomicU64::new(0),
+            applied: AtomicU64::new(0),
+            batches: AtomicU64::new(0),
+            queries: AtomicU64::new(0),
         }
     }
 
@@ -112,6 +122,16 @@ impl Figures {
     /// Notes how many milliseconds the node has served.
     pub fn note_time(&self, millis: u64) {
         self.now.store(millis, Ordering::SeqCst);
+    }
+
+    /// Notes how many seconds there are since 1970.
+    pub fn note_date(&self, seconds: u64) {
+        self.date.store(seconds, Ordering::SeqCst);
+    }
+
+    /// How many seconds there were since 1970 when that was noted last; 0 before.
+    pub fn date(&self) -> u64 {
+        self.date.load(Ordering::SeqCst)
     }
 
     /// Notes that a replica was told a version just now. Without such a replica it does nothing.
@@ -170,6 +190,43 @@ impl Figures {
     /// How many connections there were when that was noted last.
     pub fn connections(&self) -> u64 {
         self.connections.load(Ordering::SeqCst)
+    }
+
+    /// Notes a replica's report of so many queries, at this version.
+    pub fn note_batch(&self, version: u64, queries: u64) {
+        self.applied.store(version, Ordering::SeqCst);
+        self.batches.fetch_add(1, Ordering::SeqCst);
+        self.queries.fetch_add(queries, Ordering::SeqCst);
+    }
+
+    /// The version of a replica's newest report; 0 before the first.
+    pub fn applied(&self) -> u64 {
+        self.applied.load(Ordering::SeqCst)
+    }
+
+    /// How many reports a replica has made.
+    pub fn batches(&self) -> u64 {
+        self.batches.load(Ordering::SeqCst)
+    }
+
+    /// How many queries these answer.
+    pub fn queries(&self) -> u64 {
+        self.queries.load(Ordering::SeqCst)
+    }
+
+    /// Counts a connection that begins.
+    pub fn begin_connection(&self) {
+        self.connections.fetch_add(1, Ordering::SeqCst);
+    }
+
+    /// Counts a connection that ends.
+    pub fn end_connection(&self) {
+        self.connections.fetch_sub(1, Ordering::SeqCst);
+    }
+
+    /// Notes for how many connections there was no place so far.
+    pub fn note_turned_away(&self, turned_away: u64) {
+        self.turned_away.store(turned_away, Ordering::SeqCst);
     }
 
     /// For how many connections there was no place.

@@ -1,3 +1,4 @@
 mod Seats
+mod Stamped
 mod Standing
 mod Turns

@@ -1,3 +1,4 @@
--- Only for proofs: how far jobs were taken, and answers with a text. No public clause names these.
+-- Only for proofs: how far jobs were taken, answers with a text, and what requests for queries are told. No public clause names these.
 pub mod Taking
 pub mod Answering
+pub mod Queries

@@ -41,10 +41,11 @@ pub record TakesJobs (workers : ℕ) (shape : Shape) (old new : JobSeatState) (t
   pub kept : outcomes new ≡ outcomes old ++ told
   pub each : length told ≡ length jobs
 
--- a call at a seat: it takes jobs, and if the request has some, tells what they are answered
+-- a call at a seat: it takes jobs, and tells what they are answered; a request that has none takes none
 abbrev pub IsCall : ℕ → Shape → JobSeatState → Request (List ℕ) → Response → JobSeatState → Type 0
 IsCall workers shape old request response new =
     (told : List JobAnswer) × TakesJobs workers shape old new told × (IsJobs request → Tells told response)
+    × (¬ (IsJobs request) → told ≡ [])
 
 -- what answers requests: a seat at which jobs are taken, and whether a fault took back what requests of this round were told
 pub record DeskState : Type 0 where

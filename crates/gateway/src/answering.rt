@@ -5,15 +5,27 @@ ghost use Rattle.http_server.specs.Response.{IsBlank};
 ghost use Rattle.gateway.specs.Inner.Answering.{IsAnswered};
 
 use bytes::{BufMut, Bytes};
-use http::header::{ACCEPT, ALLOW, CACHE_CONTROL, CONTENT_TYPE, RETRY_AFTER};
+use http::header::{
+    ACCEPT, ALLOW, CACHE_CONTROL, CONTENT_SECURITY_POLICY, CONTENT_TYPE, DATE, RETRY_AFTER,
+    X_CONTENT_TYPE_OPTIONS,
+};
 use http::{HeaderName, HeaderValue, Request, StatusCode};
 use http_server::Response;
-use std::alloc::AllocError;
+use httpdate::HttpDate;
+use std::alloc::{AllocError, Global};
+use std::rt::Clock;
+use std::time::SystemTime;
 
 /// The kinds of texts.
 const PLAIN: &str = "text/plain; charset=us-ascii";
 
 const JSON: &str = "application/json";
+
+const HTML: &str = "text/html; charset=utf-8";
+
+/// What a page may do.
+const PAGE_POLICY: &str = "default-src 'none'; connect-src 'self'; style-src 'unsafe-inline'; \
+    script-src 'unsafe-inline'; form-action 'none'; frame-ancestors 'none'; base-uri 'none'";
 
 /// Answers with this status and this text; or 503 without one, out of memory.
 pub(crate) fn answer(response: &mut Response, status: StatusCode, text: &[u8])
@@ -34,6 +46,29 @@ pub(crate) fn answer_json(response: &mut Response, text: &[u8])
 {
     let kind = HeaderValue::from_static(JSON);
     if fill(response, StatusCode::OK, text, kind).is_ok() {
+        return;
+    }
+    response.clear();
+    response.status = StatusCode::SERVICE_UNAVAILABLE;
+}
+
+/// Answers with a page, which may ask nobody but the node, and runs its own script alone.
+pub(crate) fn answer_page(response: &mut Response, text: &str)
+    requires { IsBlank response.old }
+    ensures { IsAnswered 200 text.now response.new }
+{
+    let kind = HeaderValue::from_static(HTML);
+    if fill(response, StatusCode::OK, text.as_bytes(), kind).is_ok()
+        && response
+            .add_header(
+                CONTENT_SECURITY_POLICY,
+                HeaderValue::from_static(PAGE_POLICY),
+            )
+            .is_ok()
+        && response
+            .add_header(X_CONTENT_TYPE_OPTIONS, HeaderValue::from_static("nosniff"))
+            .is_ok()
+    {
         return;
     }
     response.clear();
@@ -111,6 +146,34 @@ pub(crate) fn answer_later(response: &mut Response, text: &[u8])
         RETRY_AFTER,
         HeaderValue::from_static("1"),
     );
+}
+
+/// Adds the date to an answer, which is so many seconds after the beginning of 1970: as RFC 9110 asks of a server with a clock.
+/// Where these are 0, or without memory for it, it has none.
+pub(crate) fn stamp(alloc: Global, response: &mut Response, seconds: u64)
+    ensures status { response.new.status ≡ response.old.status }
+    ensures body { response.new.body ≡ response.old.body }
+{
+    if seconds == 0 {
+        return;
+    }
+    let Ok(date) = HttpDate::from_unix_secs(seconds) else {
+        return;
+    };
+    if let Ok(value) = HeaderValue::from_bytes(alloc, &date.to_bytes()) {
+        let _ = response.add_header(DATE, value);
+    }
+}
+
+/// How many seconds there are since 1970; 0 if the clock does not tell.
+pub(crate) fn seconds_of<T: Clock>(rt: &T) -> u64 {
+    let Ok(now) = SystemTime::now(rt) else {
+        return 0;
+    };
+    match now.duration_since(SystemTime::UNIX_EPOCH) {
+        Ok(since) => since.as_secs(),
+        Err(_) => 0,
+    }
 }
 
 /// Gives an answer a status, a text, and the fields that each has.

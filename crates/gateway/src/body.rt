@@ -10,8 +10,8 @@ use std::alloc::Global;
 /// Why a body has no jobs that can be done.
 #[derive(Drop)]
 pub(crate) enum BodyFault {
-    /// It does not read. This text says where and why.
-    Unread(String),
+    /// It does not read. This text, which is ASCII, says where and why.
+    Unread(Vec<u8>),
     Memory,
 }
 
@@ -53,10 +53,19 @@ pub(crate) fn jobs_of(alloc: Global, setup: &Setup, body: &[u8]) -> Result<Vec<J
     Ok(jobs)
 }
 
-/// The fault of a body that does not read, with this text, for which there may be no memory.
-fn unread(text: Option<String>) -> BodyFault {
+/// The fault of a body that does not read, with this text, for which there may be no memory. It shows a word of the body, whose
+/// bytes may be any: those that are not ASCII are shown as `?`.
+pub(crate) fn unread(text: Option<String>) -> BodyFault {
     match text {
-        Some(text) => BodyFault::Unread(text),
+        Some(text) => {
+            let mut text = text.into_bytes();
+            for byte in text.as_mut_slice() {
+                if !byte.is_ascii() {
+                    *byte = b'?';
+                }
+            }
+            BodyFault::Unread(text)
+        }
         None => BodyFault::Memory,
     }
 }

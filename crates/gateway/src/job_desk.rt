@@ -6,9 +6,13 @@ ghost use Rattle.rows.specs.Shape.{shape_of};
 ghost use Rattle.sockets.specs.declared.job_answer.JobAnswer.{JobAnswer as Answer};
 ghost use Rattle.gateway.specs.Jobs.{AnswersJobs, IsTicket, SettlesJobs, TakesJobs, Tells};
 
-use crate::answering::{answer, answer_later, answer_use_get, answer_use_post, wants_json};
+use crate::answering::{
+    answer, answer_later, answer_page, answer_use_get, answer_use_post, seconds_of, stamp,
+    wants_json,
+};
 use crate::body::{BodyFault, jobs_of};
 use crate::node_facts::NodeFacts;
+use crate::primary_page::PRIMARY_PAGE;
 use crate::reporting::{report_of, tell_report};
 use crate::row_path::{RowPath, row_path_of};
 use crate::row_reading::tell_row;
@@ -24,6 +28,7 @@ use shared::{Line, Origin, Seat};
 use sockets::{JobAnswer, JobSeat, WorkersFault, are_of_workers};
 use std::alloc::{AllocError, Global};
 use std::marker::Model;
+use std::rt::Clock;
 use std::sync::Wait;
 
 /// What answers the requests of a primary's clients.
@@ -111,7 +116,7 @@ impl<'a, L: Origin, J: JournalStore + Drop, H: Wait + Drop, T: Wait> JobDesk<'a,
     ///
     /// `GET /tables/NAME/ROW` answers the row at the newest durable version that is published, as a text or,
     /// if `Accept` names it, as JSON; 404 if there is no such table or row. `GET /status` and `GET /metrics` answer
-    /// what the desk tells of its node, if it has facts. Any other path is answered 404, another method 405.
+    /// what the desk tells of its node, if it has facts, and `GET /` a page for people. Any other path is answered 404, another method 405.
     pub fn take(&mut self, request: &Request<Bytes>, response: &mut Response)
         requires { IsBlank response.old }
         ensures { AnswersJobs L.workers (shape_of L.schema) self.old request.now response.new self.new }
@@ -143,6 +148,10 @@ impl<'a, L: Origin, J: JournalStore + Drop, H: Wait + Drop, T: Wait> JobDesk<'a,
                 method,
                 response,
             );
+            return;
+        }
+        if path == "/" {
+            tell_page(request.method().as_str(), response);
             return;
         }
         match row_path_of(&self.setup.schema, path) {
@@ -240,9 +249,21 @@ impl<'a, L: Origin, J: JournalStore + Drop, H: Wait + Drop, T: Wait> JobDesk<'a,
         }
     }
 
-    /// Notes how many connections there are, and for how many there was no place so far.
-    pub(crate) fn note_connections(&self, connections: usize, turned_away: u64) {
+    /// The seconds since 1970, if they were noted; 0 otherwise.
+    fn date(&self) -> u64 {
+        match self.facts {
+            Some(facts) => facts.figures.date(),
+            None => 0,
+        }
+    }
+
+    /// Notes the time, how many connections there are, and for how many there was no place so far.
+    pub(crate) fn note_connections(&self, connections: usize, turned_away: u64)
+    where
+        T: Clock,
+    {
         if let Some(facts) = self.facts {
+            facts.figures.note_date(seconds_of(self.rt));
             facts
                 .figures
                 .note_connections(connections as u64, turned_away);
@@ -282,6 +303,17 @@ fn is_ticket(answer: &JobAnswer) -> bool
     matches!(answer, JobAnswer::Ticket(_))
 }
 
+/// Answers with the page of a primary, if the method is one that reads.
+fn tell_page(method: &str, response: &mut Response)
+    requires { IsBlank response.old }
+{
+    if method == "GET" || method == "HEAD" {
+        answer_page(response, PRIMARY_PAGE);
+    } else {
+        answer_use_get(response);
+    }
+}
+
 /// Tells that a path takes POST alone.
 fn tell_no_post(response: &mut Response)
     requires { IsBlank response.old }
@@ -296,7 +328,7 @@ fn tell_unread(fault: BodyFault, response: &mut Response)
     ensures { Tells [] response.new }
 {
     match fault {
-        BodyFault::Unread(text) => answer(response, StatusCode::BAD_REQUEST, text.as_bytes()),
+        BodyFault::Unread(text) => answer(response, StatusCode::BAD_REQUEST, &text),
         BodyFault::Memory => answer_later(response, b"memory\n"),
     }
 }
@@ -324,6 +356,7 @@ impl<'a, L: Origin, H: Wait + Drop, T: Wait> Settle for JobDesk<'a, L, FileJourn
     ) -> Result<(), AllocError> {
         self.take(request, response);
         self.note_answer(response);
+        stamp(self.alloc, response, self.date());
         Ok(())
     }
 

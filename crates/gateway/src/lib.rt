@@ -1,4 +1,4 @@
-//! What a primary answers to requests over HTTP.
+//! What a primary and a replica answer to requests over HTTP.
 //!
 //! A `JobDesk` is a `Settle` of `http_server`: it takes the jobs of a request's body at a seat of a line,
 //! and makes them durable together with those of the other requests of its round. It reads rows at
@@ -14,16 +14,29 @@
 //!
 //! `serve_jobs` serves the clients of a `Listening` so, in one thread, until it is over.
 //!
-//! It uses `sockets` for jobs at a seat, `requests` to read them, `figures` for what is counted, `http_server`
+//! At a replica `while_serving` has threads, each of which serves one client after another: the queries of a request are asked
+//! at the thread's place of a `Gathering`, and the report of just these is the answer. That the report is of them is what
+//! `gathering` and `reports` promise; that it is what the client is sent is tested.
+//!
+//! It uses `sockets` for jobs at a seat, `requests` to read them and queries, `gathering` for queries that are answered together,
+//! `reports` to show a report as JSON, `figures` for what is counted, `http_server`
 //! for requests and answers, and `service` for connections. The definitions to review are `specs/Jobs.antt` and `Serving`.
 #![tactic(auto)]
 
 mod answering;
+mod batch_body;
 mod body;
 mod job_desk;
 pub mod laws;
 mod metrics_text;
 mod node_facts;
+mod primary_page;
+mod query_desk;
+mod query_serving;
+mod replica_facts;
+mod replica_page;
+mod replica_path;
+mod replica_reports;
 mod reporting;
 mod row_path;
 mod row_reading;
@@ -34,5 +47,7 @@ mod worker_count;
 
 pub use job_desk::JobDesk;
 pub use node_facts::NodeFacts;
+pub use query_serving::{QueryListening, gathering_of_clients, while_serving};
+pub use replica_facts::ReplicaFacts;
 pub use serving::{Listening, ServingFault, serve_jobs};
 pub use worker_count::WorkerCount;

@@ -75,7 +75,7 @@ fn push_replicas(text: &mut Vec<u8>, figures: &Figures) -> Result<(), AllocError
 }
 
 /// Pushes how many requests over HTTP were answered with each status.
-fn push_statuses(text: &mut Vec<u8>, figures: &Figures) -> Result<(), AllocError> {
+pub(crate) fn push_statuses(text: &mut Vec<u8>, figures: &Figures) -> Result<(), AllocError> {
     let name = "batchdb_http_requests_total";
     push_head(
         text,
@@ -94,7 +94,7 @@ fn push_statuses(text: &mut Vec<u8>, figures: &Figures) -> Result<(), AllocError
 }
 
 /// Pushes how many connections there are, and how many found no place.
-fn push_connections(text: &mut Vec<u8>, figures: &Figures) -> Result<(), AllocError> {
+pub(crate) fn push_connections(text: &mut Vec<u8>, figures: &Figures) -> Result<(), AllocError> {
     let name = "batchdb_http_connections";
     push_head(text, name, "Connections over HTTP.", "gauge")?;
     push_line(text, name, figures.connections().max(1))?;
@@ -109,7 +109,7 @@ fn push_connections(text: &mut Vec<u8>, figures: &Figures) -> Result<(), AllocEr
 }
 
 /// Pushes how many datagrams went through the node's port.
-fn push_datagrams(text: &mut Vec<u8>, figures: &Figures) -> Result<(), AllocError> {
+pub(crate) fn push_datagrams(text: &mut Vec<u8>, figures: &Figures) -> Result<(), AllocError> {
     let name = "batchdb_datagrams_total";
     let datagrams = figures.datagrams();
     push_head(text, name, "Datagrams of the replicas' port.", "counter")?;
@@ -120,7 +120,12 @@ fn push_datagrams(text: &mut Vec<u8>, figures: &Figures) -> Result<(), AllocErro
 }
 
 /// Pushes what a figure is: what it means, and whether it only rises.
-fn push_head(text: &mut Vec<u8>, name: &str, help: &str, kind: &str) -> Result<(), AllocError> {
+pub(crate) fn push_head(
+    text: &mut Vec<u8>,
+    name: &str,
+    help: &str,
+    kind: &str,
+) -> Result<(), AllocError> {
     text.extend_from_slice(b"# HELP ")?;
     text.extend_from_slice(name.as_bytes())?;
     text.push(b' ')?;
@@ -134,7 +139,7 @@ fn push_head(text: &mut Vec<u8>, name: &str, help: &str, kind: &str) -> Result<(
 }
 
 /// Pushes the line of a figure.
-fn push_line(text: &mut Vec<u8>, name: &str, number: u64) -> Result<(), AllocError> {
+pub(crate) fn push_line(text: &mut Vec<u8>, name: &str, number: u64) -> Result<(), AllocError> {
     text.extend_from_slice(name.as_bytes())?;
     text.push(b' ')?;
     append_number(text, number)?;

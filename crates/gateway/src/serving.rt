@@ -99,7 +99,7 @@ fn serve_on<'a, L: Origin, H: Wait + Drop, T: Wait + Clock>(
 }
 
 /// Has a desk note how many connections there are.
-fn note_connections<'a, L: Origin, H: Wait + Drop, T: Wait>(
+fn note_connections<'a, L: Origin, H: Wait + Drop, T: Wait + Clock>(
     house: &House<JobDesk<'a, L, FileJournal, H, T>>,
 ) {
     let desk = house.service();

@@ -60,7 +60,7 @@ pub(crate) fn push_seconds(text: &mut Vec<u8>, told: &LastTold) -> Result<(), Al
 }
 
 /// Pushes what stands before a number, and the number.
-fn push_member(text: &mut Vec<u8>, front: &[u8], number: u64) -> Result<(), AllocError> {
+pub(crate) fn push_member(text: &mut Vec<u8>, front: &[u8], number: u64) -> Result<(), AllocError> {
     text.extend_from_slice(front)?;
     append_number(text, number)
 }

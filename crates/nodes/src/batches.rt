@@ -130,6 +130,12 @@ impl Batches {
         self.changed.notify_all();
     }
 
+    /// Whether no batch waits and no more come.
+    pub fn is_over<T: Wait>(&self, rt: &T) -> bool {
+        let ends = self.ends.lock(rt);
+        ends.has_ended && ends.whole.is_empty()
+    }
+
     /// Takes the next batch that is whole, if there is one. Fails only if out of memory; queries may be lost then.
     pub fn next<T: Wait>(&self, host: Host<'_, T>, taker: &mut Taker) -> Result<Next, AllocError> {
         let lines = match self.next_end(host.rt) {

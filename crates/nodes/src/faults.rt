@@ -17,6 +17,10 @@ pub enum NodeFault {
     Threads,
     /// The port failed at a receive; the port itself keeps what the system said.
     Socket,
+    /// The clients that the node serves beside its replicas are served no longer, as the system said.
+    Clients(io::Error),
+    /// What such clients are to be answered does not stand. Nothing of it was sent.
+    Unsettled,
     /// The replica is broken.
     Broken,
     /// A line of the input did not read, of which was told, and it or the job or batch that it was in was passed over;

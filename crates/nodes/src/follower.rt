@@ -1,6 +1,7 @@
 //! A replica that answers batches, turn by turn, and says what it does.
 
 use crate::batches::{Batches, Next, Taker};
+use crate::clients::Clients;
 use crate::ending::Ending;
 use crate::faults::NodeFault;
 use crate::host::Host;
@@ -8,17 +9,31 @@ use crate::pace::Pace;
 use crate::printing::print;
 use crate::saying::{say_slip, was_just_now};
 use dispatcher::{OpenFault, ReplicaCore};
+use gathering::Gathering;
 use queries::{Aggregate, AggregateList, ColumnList, ConditionList, Plan, PlanFault};
-use requests::{LineFault, Misread, Query, RequestFault, Skipped, elements_of};
+use requests::{BATCH_QUERIES_MAX, LineFault, Misread, Query, RequestFault, Skipped, elements_of};
 use rows::ByteList;
 use sockets::{Port, ReplicaNode, ServeFault, Turned, take_turn};
-use std::alloc::Global;
+use std::alloc::{AllocError, Global};
 use std::io::Write;
 use std::rt::Clock;
 use std::sync::{Mutex, Wait};
 use std::thread::Threads;
-use std::time::Instant;
+use std::time::{Duration, Instant};
 use store::ApplyStore;
+
+/// For how long a request is waited for at once, in milliseconds.
+const REQUEST_MILLIS: u64 = 10;
+
+/// Whose batch is under way.
+#[derive(Clone, Copy)]
+enum UnderWay {
+    Nothing,
+    /// One of the input.
+    Input,
+    /// One of clients.
+    Clients,
+}
 
 /// A replica's node, with its pace, and how far it came with its batches.
 #[derive(Drop)]
@@ -29,10 +44,19 @@ pub struct Follower<S: ApplyStore + Sync, P: Port + Drop> {
     is_live: bool,
     /// How many turns are left.
     left: Option<u64>,
+    /// How many turns it goes on for its clients once the input has ended.
+    left_for_clients: Option<u64>,
+    under_way: UnderWay,
+    /// How many queries the batch under way has.
+    queries: u64,
+    /// Whether the batch before was one of the input, so that clients come next.
+    prefers_clients: bool,
+    /// Whether nothing arrived in the turn before, or it answered a batch.
+    is_quiet: bool,
     /// When the batch under way began, and when something was said of it last.
     begun_at: Option<Instant>,
     told_at: Option<Instant>,
-    /// How many batches it has answered.
+    /// How many batches of the input it has answered.
     answered: u64,
     /// A batch that waits until the replica has its columns; empty if none does.
     held: Vec<Query>,
@@ -51,6 +75,11 @@ impl<S: ApplyStore + Sync, P: Port + Drop> Follower<S, P> {
             pace,
             is_live,
             left: pace.turns,
+            left_for_clients: pace.turns,
+            under_way: UnderWay::Nothing,
+            queries: 0,
+            prefers_clients: false,
+            is_quiet: false,
             begun_at: None,
             told_at: None,
             answered: 0,
@@ -73,70 +102,177 @@ impl<S: ApplyStore + Sync, P: Port + Drop> Follower<S, P> {
         self.pace.says
     }
 
-    /// Serves until all batches are answered and no more come, or the node is to end, and writes each report.
+    /// Serves until all batches are answered and no more come, or the node is to end, and writes each report. With clients it
+    /// goes on once the input has ended, until its turns are used up; each client is answered by the report of its own queries.
     ///
-    /// Fails with `Unanswered` if the turns or the time of a batch are used up; with `Input` if a query does not fit the
-    /// tables, also after the newest columns came, unless it is live: then that batch is passed over, of which is told; with
-    /// `Socket`, `Broken`, `Memory` and `Output`.
+    /// Fails with `Unanswered` if the turns or the time of a batch of the input are used up; with `Input` if a query does not fit
+    /// the tables, also after the newest columns came, unless it is live: then that batch is passed over, of which is told; with
+    /// `Clients`, `Socket`, `Broken`, `Memory` and `Output`.
     pub(crate) fn follow<T: Threads + Wait + Clock + Sync, W: Write, E: Write>(
         &mut self,
         host: Host<'_, T>,
         batches: &Batches,
+        clients: Option<Clients<'_>>,
         ending: &Ending,
         writer: &mut W,
         errors: &Mutex<E>,
     ) -> Result<(), NodeFault> {
         let mut taker = Taker::new(host.alloc);
-        let mut is_asked = false;
         for _ in host.rt.forever() {
-            if ending.is_stopped() {
+            if ending.is_stopped() || self.is_over(host, batches, clients)? {
                 return Ok(());
             }
-            if !is_asked {
-                match batches.next(host, &mut taker) {
-                    Ok(Next::Batch(queries)) => {
-                        self.begin(host, queries)?;
-                        is_asked = true;
-                    }
-                    Ok(Next::NotYet) => {}
-                    Ok(Next::Ended) => return Ok(()),
-                    Err(_) => return Err(NodeFault::Memory),
+            if let UnderWay::Nothing = self.under_way {
+                self.await_request(host, clients);
+                self.begin_next(host, batches, &mut taker, clients)?;
+            }
+            self.count_turn(host, clients)?;
+            match self.turn(host, clients, writer, errors) {
+                Ok(true) => {
+                    self.under_way = UnderWay::Nothing;
+                    // A client that was answered may soon ask again.
+                    self.is_quiet = true;
                 }
-            }
-            if is_asked && !self.may_go_on(host) {
-                return Err(NodeFault::Unanswered);
-            }
-            match self.turn(host, writer, errors) {
-                Ok(is_answered) => is_asked = is_asked && !is_answered,
+                Ok(false) => {}
                 Err(fault) => {
-                    self.pass_over(host, fault, ending, errors)?;
-                    is_asked = false;
+                    self.pass_over(host, fault, clients, ending, errors)?;
+                    self.under_way = UnderWay::Nothing;
                 }
             }
-            if is_asked {
+            if let UnderWay::Input = self.under_way {
                 self.say_waiting(host, errors);
             }
         }
         unreachable!()
     }
 
-    /// Tells of a query that does not fit the tables also after the newest columns came, whose batch a live replica passes
-    /// over. All else ends the node.
+    /// Whether it is to end: no batch of the input is left, and it has no clients, or its turns for them are used up. Fails where
+    /// clients are served no longer.
+    fn is_over<T: Wait>(
+        &mut self,
+        host: Host<'_, T>,
+        batches: &Batches,
+        clients: Option<Clients<'_>>,
+    ) -> Result<bool, NodeFault> {
+        if let Some(Clients { gathering, .. }) = clients
+            && let Some(fault) = gathering.take_fault(host.rt)
+        {
+            return Err(NodeFault::Clients(fault));
+        }
+        if let UnderWay::Input = self.under_way {
+            return Ok(false);
+        }
+        if !batches.is_over(host.rt) {
+            return Ok(false);
+        }
+        match clients {
+            Some(_) => Ok(!take_turn(&mut self.left_for_clients)),
+            None => Ok(true),
+        }
+    }
+
+    /// Waits for a request of a client, for a moment, if nothing arrived in the turn before or it answered a batch: in a turn the
+    /// node would wait for datagrams alone.
+    fn await_request<T: Wait + Clock>(&self, host: Host<'_, T>, clients: Option<Clients<'_>>) {
+        if let Some(Clients { gathering, .. }) = clients
+            && self.is_quiet
+        {
+            gathering.wait(host.rt, Duration::from_millis(REQUEST_MILLIS));
+        }
+    }
+
+    /// Begins the next batch, of the input or of clients, if one waits; in turn, where both wait.
+    fn begin_next<T: Wait + Clock>(
+        &mut self,
+        host: Host<'_, T>,
+        batches: &Batches,
+        taker: &mut Taker,
+        clients: Option<Clients<'_>>,
+    ) -> Result<(), NodeFault> {
+        if self.prefers_clients && self.begin_gathered(host, clients)? {
+            return Ok(());
+        }
+        match batches.next(host, taker) {
+            Ok(Next::Batch(queries)) => {
+                self.prefers_clients = true;
+                self.under_way = UnderWay::Input;
+                self.begin(host, queries)
+            }
+            Ok(Next::NotYet | Next::Ended) => {
+                self.begin_gathered(host, clients)?;
+                Ok(())
+            }
+            Err(_) => Err(NodeFault::Memory),
+        }
+    }
+
+    /// Begins a batch of the requests of clients that wait, if any does. Whether one is begun.
+    fn begin_gathered<T: Wait + Clock>(
+        &mut self,
+        host: Host<'_, T>,
+        clients: Option<Clients<'_>>,
+    ) -> Result<bool, NodeFault> {
+        let Some(Clients { gathering, .. }) = clients else {
+            return Ok(false);
+        };
+        let Ok(queries) = gathered(host, self.node.core(), gathering) else {
+            return Err(NodeFault::Memory);
+        };
+        if queries.is_empty() {
+            return Ok(false);
+        }
+        self.prefers_clients = false;
+        self.under_way = UnderWay::Clients;
+        self.begin(host, queries)?;
+        Ok(true)
+    }
+
+    /// Uses up a turn and the time of the batch under way. Where none is left, a batch of the input fails; clients are turned
+    /// away, those that wait too, and the turns are counted anew until the replica has the answer, which nobody gets.
+    fn count_turn<T: Wait + Clock>(
+        &mut self,
+        host: Host<'_, T>,
+        clients: Option<Clients<'_>>,
+    ) -> Result<(), NodeFault> {
+        match (self.under_way, clients) {
+            (UnderWay::Input, _) if !self.may_go_on(host) => Err(NodeFault::Unanswered),
+            (UnderWay::Clients, Some(Clients { gathering, .. })) if !self.may_go_on(host) => {
+                gathering.turn_away(host.rt);
+                self.left = self.pace.turns;
+                self.begun_at = Instant::now(host.rt).ok();
+                Ok(())
+            }
+            _ => Ok(()),
+        }
+    }
+
+    /// Tells of a query that does not fit the tables also after the newest columns came: the client whose it is, or, live, who
+    /// reads the errors; its batch is passed over. All else ends the node.
     fn pass_over<T: Wait, E: Write>(
         &self,
         host: Host<'_, T>,
         fault: NodeFault,
+        clients: Option<Clients<'_>>,
         ending: &Ending,
         errors: &Mutex<E>,
     ) -> Result<(), NodeFault> {
-        match fault {
-            NodeFault::Input(slip) if self.is_live => {
-                ending.slip();
-                say_slip(host, &slip, errors);
-                Ok(())
-            }
-            fault => Err(fault),
+        let slip = match fault {
+            NodeFault::Input(slip) => slip,
+            fault => return Err(fault),
+        };
+        if let (UnderWay::Clients, Some(Clients { gathering, .. })) = (self.under_way, clients) {
+            let Ok(why) = format!(in host.alloc; "{slip}\n") else {
+                return Err(NodeFault::Memory);
+            };
+            gathering.refuse(host.rt, why.as_str());
+            return Ok(());
         }
+        if !self.is_live {
+            return Err(NodeFault::Input(slip));
+        }
+        ending.slip();
+        say_slip(host, &slip, errors);
+        Ok(())
     }
 
     /// Opens a batch. One that does not fit the replica's tables is held, and a query of the node's own goes first: with
@@ -145,6 +281,7 @@ impl<S: ApplyStore + Sync, P: Port + Drop> Follower<S, P> {
         if self.is_live {
             self.left = self.pace.turns;
         }
+        self.queries = queries.len() as u64;
         self.begun_at = Instant::now(host.rt).ok();
         self.told_at = self.begun_at;
         match refused(self.node.core(), queries.as_slice()) {
@@ -206,14 +343,22 @@ impl<S: ApplyStore + Sync, P: Port + Drop> Follower<S, P> {
         }
     }
 
-    /// Serves one turn, and writes the report if a batch is answered. Whether one is.
+    /// Serves one turn, and hands on the report if a batch is answered. Whether one is.
     fn turn<T: Threads + Wait + Sync, W: Write, E: Write>(
         &mut self,
         host: Host<'_, T>,
+        clients: Option<Clients<'_>>,
         writer: &mut W,
         errors: &Mutex<E>,
     ) -> Result<bool, NodeFault> {
-        let report = match self.node.turn(host.rt) {
+        let received = self.node.traffic().received;
+        let turned = self.node.turn(host.rt);
+        let traffic = self.node.traffic();
+        self.is_quiet = traffic.received == received;
+        if let Some(Clients { figures, .. }) = clients {
+            figures.note_traffic(traffic);
+        }
+        let report = match turned {
             Ok(Turned::Answered(report)) => report,
             Ok(_) => return Ok(false),
             Err(fault) => return Err(fault_of(fault)),
@@ -222,7 +367,15 @@ impl<S: ApplyStore + Sync, P: Port + Drop> Follower<S, P> {
             self.go_on(host.alloc)?;
             return Ok(false);
         }
-        self.tell(host, &report, writer, errors)?;
+        if let Some(Clients { figures, .. }) = clients {
+            figures.note_batch(self.node.core().version(), self.queries);
+        }
+        match (self.under_way, clients) {
+            (UnderWay::Clients, Some(Clients { gathering, .. })) => {
+                gathering.answer(host.rt, report.as_slice());
+            }
+            _ => self.tell(host, &report, writer, errors)?,
+        }
         Ok(true)
     }
 
@@ -275,6 +428,36 @@ pub fn fault_of(fault: ServeFault) -> NodeFault {
         ServeFault::Broken => NodeFault::Broken,
         ServeFault::Memory => NodeFault::Memory,
     }
+}
+
+/// The queries of requests that wait, for one batch: of the first, and of those behind it while they fit beside it. One that does not
+/// fit the replica's tables is a batch by itself. There are none if no request waits. Fails only if out of memory.
+fn gathered<T: Wait, S: ApplyStore + Sync>(
+    host: Host<'_, T>,
+    replica: &ReplicaCore<S>,
+    gathering: &Gathering,
+) -> Result<Vec<Query>, AllocError> {
+    let mut queries = match gathering.take(host.rt, BATCH_QUERIES_MAX)? {
+        Some(first) => first.into_queries(),
+        None => return Ok(Vec::new(host.alloc)),
+    };
+    if refused(replica, queries.as_slice()).is_some() {
+        return Ok(queries);
+    }
+    for _ in 0..BATCH_QUERIES_MAX {
+        let room = BATCH_QUERIES_MAX.saturating_sub(queries.len());
+        let Some(next) = gathering.take(host.rt, room)? else {
+            break;
+        };
+        if refused(replica, next.queries.as_slice()).is_some() {
+            gathering.put_back(host.rt, next)?;
+            break;
+        }
+        for query in next.into_queries() {
+            queries.push(query)?;
+        }
+    }
+    Ok(queries)
 }
 
 /// The first of these queries that does not fit the replica's tables, and its fault.

@@ -11,6 +11,7 @@ use crate::pace::Pace;
 use crate::progress::Progress;
 use crate::server::Server;
 use crate::streams::Streams;
+use figures::Figures;
 use journal::JournalStore;
 use requests::{Dialect, JobReader, Request, RequestFault, Requested};
 use rows::limits::WORKERS_MAX;
@@ -20,6 +21,7 @@ use sockets::{Job, Port, PrimaryNode, Worker};
 use std::alloc::{AllocError, Global};
 use std::io::{Read, Write};
 use std::rt::Clock;
+use std::sync::atomic::AtomicBool;
 use std::sync::{Mutex, Wait};
 use std::thread::Threads;
 
@@ -44,6 +46,8 @@ pub struct Work<'a> {
     /// The jobs of the input; `None`: they are taken while it serves.
     pub jobs: Option<Vec<Job>>,
     pub pace: Pace,
+    /// What its threads count.
+    pub figures: &'a Figures,
 }
 
 impl<L: Origin, P: Port + Drop> Primary<L, P> {
@@ -80,7 +84,9 @@ impl<L: Origin, P: Port + Drop> Primary<L, P> {
         })
     }
 
-    /// Does its work: jobs of before first, and then it serves; or jobs as they come, while it serves.
+    /// Does its work: jobs of before first, and then it serves; or jobs as they come, while it serves. Only then something else
+    /// is done beside it, in the thread that calls, which is to end once the flag that it is given is set: all other threads
+    /// of the node have ended then. A fault of that ends the node.
     pub fn run<
         J: JournalStore + Drop + Send,
         H: Wait + Drop + Send + Sync,
@@ -88,25 +94,29 @@ impl<L: Origin, P: Port + Drop> Primary<L, P> {
         R: Read + Send,
         W: Write + Send,
         E: Write + Send,
+        F: FnOnce(&AtomicBool) -> Result<(), NodeFault>,
     >(
         &mut self,
         host: Host<'_, T>,
         line: &Line<L, J, H>,
         work: &Work<'_>,
         streams: &mut Streams<R, W, E>,
+        beside: F,
     ) -> Result<(), NodeFault>
     where
         L: Send + Sync,
         P: Send,
         requires workers { work.now.setup.now.workers ≡ L.workers }
         requires new { All (λ worker. worker.answers ≡ []) self.old.crew.items }
+        requires beside { F.IsAlwaysCallable beside }
     {
         let Some(jobs) = &work.jobs else {
-            return serve_live(host, line, self, work, streams);
+            return serve_live(host, line, self, work, streams, beside);
         };
         let Streams { writer, errors, .. } = streams;
         self.do_jobs(host, line, work, jobs, writer, errors)?;
-        self.server.serve(host, line, &Mutex::new(errors))
+        self.server
+            .serve(host, line, work.figures, &Mutex::new(errors))
     }
 
     /// Does jobs of before, and says meanwhile how many are done, if it is to.

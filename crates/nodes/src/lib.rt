@@ -18,6 +18,7 @@
 
 mod answers;
 mod batches;
+mod clients;
 mod crew_jobs;
 mod ending;
 mod faults;
@@ -39,6 +40,7 @@ mod streams;
 mod threads;
 mod waiting;
 
+pub use clients::Clients;
 pub use ending::Ending;
 pub use faults::NodeFault;
 pub use follower::{Follower, fault_of};

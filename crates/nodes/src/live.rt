@@ -15,6 +15,7 @@ use crate::server::Server;
 use crate::streams::Streams;
 use crate::threads::try_threads;
 use crate::waiting::{Place, Taken, Waiting, parted};
+use figures::Figures;
 use journal::JournalStore;
 use requests::{Dialect, JobReader, Request, RequestFault, Requested, Skipped};
 use rows::Schema;
@@ -24,14 +25,18 @@ use sockets::{Job, OpenGate, Port, Worker, WorkersFault};
 use std::alloc::{AllocError, Global};
 use std::io::{Read, Write};
 use std::rt::Clock;
+use std::sync::atomic::{AtomicBool, Ordering};
 use std::sync::{Mutex, Wait};
-use std::thread::{Threads, for_each_mut, join};
+use std::thread::{Builder, Threads, for_each_mut, join, scope, scope_env};
 
 /// What the threads of a live primary share: the jobs that wait for each worker, and the streams.
 #[derive(Drop)]
-struct Live<W, E> {
+struct Live<'a, W, E> {
     lanes: Vec<Lane<Waiting>>,
     ending: Ending,
+    /// Whether all threads of the node have ended, but for what is done beside it.
+    is_over: AtomicBool,
+    figures: &'a Figures,
     output: Mutex<W>,
     errors: Mutex<E>,
     says: bool,
@@ -39,11 +44,12 @@ struct Live<W, E> {
 
 /// Takes jobs from the input, has the worker of each do it in a thread of its own, and serves meanwhile; once the input
 /// has ended and all jobs are done it serves until its turns are used up. What each job is answered is written as soon as it
-/// is known. A line that does not read is told on `errors`; a job with such a line is refused.
+/// is known. A line that does not read is told on `errors`; a job with such a line is refused. Beside all that, and until
+/// it has ended, this thread does something else.
 ///
 /// Fails with `Threads` if the system makes too few threads; otherwise as the first thread that does: `Journal`,
-/// `Memory`, `Output`, `Socket`, and `Input` if the input cannot be read; and with `Slipped` if all went well but for lines
-/// that did not read.
+/// `Memory`, `Output`, `Socket`, `Input` if the input cannot be read, and as what is done beside it does; and with `Slipped` if
+/// all went well but for lines that did not read.
 pub fn serve_live<
     L: Origin + Send + Sync,
     J: JournalStore + Drop + Send,
@@ -53,14 +59,17 @@ pub fn serve_live<
     R: Read + Send,
     W: Write + Send,
     E: Write + Send,
+    F: FnOnce(&AtomicBool) -> Result<(), NodeFault>,
 >(
     host: Host<'_, T>,
     line: &Line<L, J, H>,
     primary: &mut Primary<L, P>,
     work: &Work<'_>,
     streams: &mut Streams<R, W, E>,
+    beside: F,
 ) -> Result<(), NodeFault>
-    requires { work.now.setup.now.workers ≡ L.workers }
+    requires workers { work.now.setup.now.workers ≡ L.workers }
+    requires beside { F.IsAlwaysCallable beside }
 {
     let Streams {
         reader,
@@ -74,15 +83,81 @@ pub fn serve_live<
     let live = Live {
         lanes,
         ending: Ending::of(workers as u64),
+        is_over: AtomicBool::new(false),
+        figures: work.figures,
         output: Mutex::new(writer),
         errors: Mutex::new(errors),
         says: work.pace.says,
     };
-    if try_threads(host, workers.saturating_add(1)).is_err() {
+    if try_threads(host, workers.saturating_add(2)).is_err() {
         return Err(NodeFault::Threads);
     }
-    run_threads(host, line, primary, work.setup, reader, &live);
+    run_beside(host, line, primary, work.setup, reader, &live, beside);
     live.ending.into_result()
+}
+
+/// Runs the threads of the node, and does something else meanwhile, in the thread that calls: it need not be such as may be sent
+/// to a thread. If the system makes no thread, nothing is done.
+fn run_beside<
+    'a,
+    L: Origin + Send + Sync,
+    J: JournalStore + Drop + Send,
+    H: Wait + Drop + Send + Sync,
+    P: Port + Drop + Send,
+    T: Threads + Wait + Clock + Sync,
+    R: Read + Send,
+    W: Write + Send,
+    E: Write + Send,
+    F: FnOnce(&AtomicBool) -> Result<(), NodeFault>,
+>(
+    host: Host<'a, T>,
+    line: &'a Line<L, J, H>,
+    primary: &'a mut Primary<L, P>,
+    setup: &'a Setup,
+    reader: &'a mut R,
+    live: &'a Live<'a, W, E>,
+    beside: F,
+)
+    requires workers { setup.now.workers ≡ L.workers }
+    requires beside { F.IsAlwaysCallable beside }
+{
+    let primary = &mut *primary;
+    let reader = &mut *reader;
+    scope(
+        scope_env(),
+        host.rt,
+        move |scope|
+            requires workers { setup.now.workers ≡ L.workers }
+            requires beside { F.IsAlwaysCallable beside }
+        {
+            let others = Builder::new().spawn_scoped(
+                scope,
+                move ||
+                    requires { setup.now.workers ≡ L.workers }
+                {
+                    run_threads(host, line, primary, setup, reader, live);
+                    live.is_over.store(true, Ordering::SeqCst);
+                },
+            );
+            match others {
+                Ok(_) => do_beside(host, live, beside),
+                Err(_) => live.ending.note(host.rt, NodeFault::Threads),
+            }
+        },
+    );
+}
+
+/// Does something beside the threads of the node, which end if it fails.
+fn do_beside<T: Wait, W, E, F: FnOnce(&AtomicBool) -> Result<(), NodeFault>>(
+    host: Host<'_, T>,
+    live: &Live<'_, W, E>,
+    beside: F,
+)
+    requires { F.IsAlwaysCallable beside }
+{
+    if let Err(fault) = beside(&live.is_over) {
+        live.stop(host, fault);
+    }
 }
 
 /// Serves, does the jobs of each worker, and takes what comes from the input, each in a thread of its own, until all have
@@ -102,7 +177,7 @@ fn run_threads<
     primary: &mut Primary<L, P>,
     setup: &Setup,
     reader: &mut R,
-    live: &Live<W, E>,
+    live: &Live<'_, W, E>,
 )
     requires { setup.now.workers ≡ L.workers }
 {
@@ -144,7 +219,7 @@ fn work<
     T: Threads + Wait + Sync,
     W: Write + Send,
     E: Write + Send,
->(host: Host<'_, T>, line: &Line<L, J, H>, crew: &mut [Worker<L>], live: &Live<W, E>)
+>(host: Host<'_, T>, line: &Line<L, J, H>, crew: &mut [Worker<L>], live: &Live<'_, W, E>)
     requires { length crew.old ≤ L.workers }
 {
     let threads = crew.len().max(1);
@@ -167,7 +242,7 @@ fn lanes_of(alloc: Global, workers: usize) -> Result<Vec<Lane<Waiting>>, AllocEr
     Ok(lanes)
 }
 
-impl<W, E> Live<W, E> {
+impl<W, E> Live<'_, W, E> {
     /// Has all threads end at once, for this reason if there was none before.
     fn stop<T: Wait>(&self, host: Host<'_, T>, fault: NodeFault) {
         self.ending.stop(host.rt, fault);
@@ -191,8 +266,8 @@ fn serve<
     T: Wait + Clock,
     W: Write,
     E: Write,
->(host: Host<'_, T>, line: &Line<L, J, H>, server: &mut Server<L, P>, live: &Live<W, E>) {
-    if let Err(fault) = server.serve_on(host, line, &live.ending, &live.errors) {
+>(host: Host<'_, T>, line: &Line<L, J, H>, server: &mut Server<L, P>, live: &Live<'_, W, E>) {
+    if let Err(fault) = server.serve_on(host, line, &live.ending, live.figures, &live.errors) {
         live.stop(host, fault);
     }
 }
@@ -203,7 +278,7 @@ fn work_off<L: Origin, J: JournalStore + Drop, H: Wait + Drop, T: Wait, W: Write
     line: &Line<L, J, H>,
     worker: &mut Worker<L>,
     number: usize,
-    live: &Live<W, E>,
+    live: &Live<'_, W, E>,
 )
     requires { number < L.workers }
 {
@@ -219,7 +294,7 @@ fn do_jobs<L: Origin, J: JournalStore + Drop, H: Wait + Drop, T: Wait, W: Write,
     line: &Line<L, J, H>,
     worker: &mut Worker<L>,
     number: usize,
-    live: &Live<W, E>,
+    live: &Live<'_, W, E>,
 ) -> Result<(), NodeFault>
     requires { number < L.workers }
 {
@@ -250,7 +325,7 @@ fn do_taken<L: Origin, J: JournalStore + Drop, H: Wait + Drop, T: Wait, W: Write
     worker: &mut Worker<L>,
     number: usize,
     taken: &Taken,
-    live: &Live<W, E>,
+    live: &Live<'_, W, E>,
 ) -> Result<(), NodeFault>
     requires { number < L.workers }
 {
@@ -289,7 +364,7 @@ fn do_together<L: Origin, J: JournalStore + Drop, H: Wait + Drop, T: Wait, W: Wr
     number: usize,
     jobs: &[Job],
     places: &[Place],
-    live: &Live<W, E>,
+    live: &Live<'_, W, E>,
 ) -> Result<(), NodeFault>
     requires { number < L.workers }
 {
@@ -298,6 +373,7 @@ fn do_together<L: Origin, J: JournalStore + Drop, H: Wait + Drop, T: Wait, W: Wr
         return Err(NodeFault::Memory);
     }
     worker.works(host.rt, host.alloc, line, number, jobs, &OpenGate);
+    live.figures.note_jobs(worker.answers());
     {
         let mut output = live.output.lock(host.rt);
         tell_answers(host.alloc, worker, jobs, places, &mut *output)?;
@@ -326,7 +402,7 @@ fn read_on<L: Origin, T: Wait, R: Read, W: Write, E: Write>(
     looking: &mut Seat<L>,
     setup: &Setup,
     reader: &mut R,
-    live: &Live<W, E>,
+    live: &Live<'_, W, E>,
 ) {
     match take_requests(host, looking, setup, reader, live) {
         Ok(()) => {}
@@ -343,7 +419,7 @@ fn take_requests<L: Origin, T: Wait, R: Read, W: Write, E: Write>(
     looking: &mut Seat<L>,
     setup: &Setup,
     reader: &mut R,
-    live: &Live<W, E>,
+    live: &Live<'_, W, E>,
 ) -> Result<(), NodeFault> {
     let mut requests = JobReader::new(host.alloc, Dialect::Live);
     let mut number: u64 = 0;
@@ -403,7 +479,7 @@ fn take_requests<L: Origin, T: Wait, R: Read, W: Write, E: Write>(
 fn hand_on<T: Wait, W, E>(
     host: Host<'_, T>,
     waiting: Waiting,
-    live: &Live<W, E>,
+    live: &Live<'_, W, E>,
 ) -> Result<(), NodeFault> {
     // The worker is one of the setup's, since the line of the job reads.
     let Some(lane) = live.lanes.get(waiting.job.worker as usize) else {
@@ -421,7 +497,7 @@ fn tell_look<L: Origin, T: Wait, W: Write, E>(
     looking: &mut Seat<L>,
     look: &Look,
     schema: &Schema,
-    live: &Live<W, E>,
+    live: &Live<'_, W, E>,
 ) -> Result<(), NodeFault> {
     let Ok(line) = look_line(host.alloc, looking, schema, look) else {
         return Err(NodeFault::Memory);
@@ -436,7 +512,7 @@ fn pass_over<T: Wait, W: Write, E: Write>(
     host: Host<'_, T>,
     fault: RequestFault,
     number: u64,
-    live: &Live<W, E>,
+    live: &Live<'_, W, E>,
 ) -> Result<bool, NodeFault> {
     let RequestFault::Line { skipped, .. } = &fault else {
         return Err(NodeFault::Input(fault));
@@ -446,6 +522,7 @@ fn pass_over<T: Wait, W: Write, E: Write>(
     if !matches!(skipped, Skipped::Job) {
         return Ok(false);
     }
+    live.figures.note_unread();
     let mut output = live.output.lock(host.rt);
     tell_unread(host.alloc, number, &mut *output)?;
     Ok(true)

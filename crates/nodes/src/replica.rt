@@ -1,6 +1,7 @@
 //! A replica that answers the batches of its input.
 
 use crate::batches::{Batches, ROOM};
+use crate::clients::Clients;
 use crate::ending::Ending;
 use crate::faults::NodeFault;
 use crate::follower::Follower;
@@ -52,6 +53,8 @@ impl<S: ApplyStore + Sync, P: Port + Drop> Follower<S, P> {
     /// look every 2 ms; if there is none, or the system makes no thread for it, what its socket cannot hold while the node is
     /// at work is lost, and is asked for again.
     ///
+    /// Live, it answers clients too, and goes on for them, also where the input has ended, until its turns are used up.
+    ///
     /// Fails as `Follower::follow` does, and live also with `Threads`, `Input` and `Slipped`.
     pub fn serve<T: Threads + Wait + Clock + Sync, R: Read + Send, W: Write, E: Write + Send>(
         &mut self,
@@ -60,31 +63,37 @@ impl<S: ApplyStore + Sync, P: Port + Drop> Follower<S, P> {
         drain: Option<Drain>,
         batches: Option<Vec<Vec<Query>>>,
         streams: &mut Streams<R, W, E>,
+        clients: Option<Clients<'_>>,
     ) -> Result<(), NodeFault> {
-        match drain {
+        let served = match drain {
             // (a clause that asks for nothing, with which the proof has at hand what may be sent to a thread)
             Some(drain) => while_draining(
                 host,
                 drain,
                 ||
                     requires { Unit {0} }
-                { self.answer_either(host, setup, batches, streams) },
+                { self.answer_either(host, setup, batches, streams, clients) },
             ),
-            None => self.answer_either(host, setup, batches, streams),
+            None => self.answer_either(host, setup, batches, streams, clients),
+        };
+        if let Some(Clients { gathering, .. }) = clients {
+            gathering.end(host.rt, matches!(served, Err(NodeFault::Broken)));
         }
+        served
     }
 
-    /// Answers these batches, or, live, those of the input.
+    /// Answers these batches, or, live, those of the input and of clients.
     fn answer_either<T: Threads + Wait + Clock + Sync, R: Read + Send, W: Write, E: Write + Send>(
         &mut self,
         host: Host<'_, T>,
         setup: &Setup,
         batches: Option<Vec<Vec<Query>>>,
         streams: &mut Streams<R, W, E>,
+        clients: Option<Clients<'_>>,
     ) -> Result<(), NodeFault> {
         match batches {
             Some(batches) => self.answer(host, batches, streams),
-            None => self.answer_live(host, setup, streams),
+            None => self.answer_live(host, setup, streams, clients),
         }
     }
 
@@ -100,7 +109,7 @@ impl<S: ApplyStore + Sync, P: Port + Drop> Follower<S, P> {
         };
         let ending = Ending::of(0);
         let Streams { writer, errors, .. } = streams;
-        match self.follow(host, &batches, &ending, writer, &Mutex::new(errors)) {
+        match self.follow(host, &batches, None, &ending, writer, &Mutex::new(errors)) {
             Ok(()) => ending.into_result(),
             Err(fault) => Err(fault),
         }
@@ -116,6 +125,7 @@ impl<S: ApplyStore + Sync, P: Port + Drop> Follower<S, P> {
         host: Host<'_, T>,
         setup: &Setup,
         streams: &mut Streams<R, W, E>,
+        clients: Option<Clients<'_>>,
     ) -> Result<(), NodeFault> {
         let Ok(batches) = Batches::new(host.alloc, ROOM) else {
             return Err(NodeFault::Memory);
@@ -125,23 +135,36 @@ impl<S: ApplyStore + Sync, P: Port + Drop> Follower<S, P> {
             writer,
             errors,
         } = streams;
-        let live = LiveReplica {
-            batches,
-            ending: Ending::of(0),
-            reader: Mutex::new(reader),
-            errors: Mutex::new(errors),
-            says: self.says(),
-        };
+        let live = LiveReplica::new(batches, reader, errors, self.says(), clients);
+        self.answer_while_reading(host, setup, writer, &live);
+        live.ending.into_result()
+    }
+
+    /// Answers what comes, while another thread takes it from the input.
+    fn answer_while_reading<
+        'a,
+        T: Threads + Wait + Clock + Sync,
+        R: Read + Send,
+        W: Write,
+        E: Write + Send,
+    >(
+        &'a mut self,
+        host: Host<'a, T>,
+        setup: &'a Setup,
+        writer: &'a mut W,
+        live: &'a LiveReplica<'a, R, E>,
+    ) {
+        let follower = &mut *self;
+        let writer = &mut *writer;
         // (the same clause)
         while_reading(
             host,
             setup,
-            &live,
-            ||
+            live,
+            move ||
                 requires { Unit {0} }
-            { self.answer_all(host, writer, &live) },
+            { follower.answer_all(host, writer, live) },
         );
-        live.ending.into_result()
     }
 
     /// Answers what comes, until no more does.
@@ -149,9 +172,17 @@ impl<S: ApplyStore + Sync, P: Port + Drop> Follower<S, P> {
         &mut self,
         host: Host<'_, T>,
         writer: &mut W,
-        live: &LiveReplica<R, E>,
+        live: &LiveReplica<'_, R, E>,
     ) {
-        let followed = self.follow(host, &live.batches, &live.ending, writer, &live.errors);
+        let batches = &live.batches;
+        let followed = self.follow(
+            host,
+            batches,
+            live.clients,
+            &live.ending,
+            writer,
+            &live.errors,
+        );
         if let Err(fault) = followed {
             live.ending.stop(host.rt, fault);
         }
@@ -211,12 +242,13 @@ fn drain_until<T: Wait + Clock>(host: Host<'_, T>, drain: Drain, over: &AtomicBo
 
 /// Does work while another thread takes what comes from the input. If the system makes no thread it does neither: one after
 /// the other, nothing would be answered before the input ends.
-fn while_reading<T: Threads + Wait + Clock + Sync, R: Read + Send, E: Write + Send, F: FnOnce()>(
-    host: Host<'_, T>,
-    setup: &Setup,
-    live: &LiveReplica<R, E>,
-    work: F,
-)
+fn while_reading<
+    'a,
+    T: Threads + Wait + Clock + Sync,
+    R: Read + Send,
+    E: Write + Send,
+    F: FnOnce(),
+>(host: Host<'a, T>, setup: &'a Setup, live: &'a LiveReplica<'a, R, E>, work: F)
     requires { F.pre work }
 {
     scope(
@@ -235,8 +267,9 @@ fn while_reading<T: Threads + Wait + Clock + Sync, R: Read + Send, E: Write + Se
 
 /// What the threads of a live replica share.
 #[derive(Drop)]
-struct LiveReplica<R, E> {
+struct LiveReplica<'a, R, E> {
     batches: Batches,
+    clients: Option<Clients<'a>>,
     ending: Ending,
     /// One thread alone reads. The lock is what lets it have the reader.
     reader: Mutex<R>,
@@ -244,8 +277,32 @@ struct LiveReplica<R, E> {
     says: bool,
 }
 
+impl<'a, R, E> LiveReplica<'a, R, E> {
+    /// Of a node that has taken nothing, with these batches and clients.
+    fn new(
+        batches: Batches,
+        reader: R,
+        errors: E,
+        says: bool,
+        clients: Option<Clients<'a>>,
+    ) -> LiveReplica<'a, R, E> {
+        LiveReplica {
+            batches,
+            clients,
+            ending: Ending::of(0),
+            reader: Mutex::new(reader),
+            errors: Mutex::new(errors),
+            says,
+        }
+    }
+}
+
 /// Takes what comes from the input, until it ends or the node is to.
-fn read_on<T: Wait, R: Read, E: Write>(host: Host<'_, T>, setup: &Setup, live: &LiveReplica<R, E>) {
+fn read_on<T: Wait, R: Read, E: Write>(
+    host: Host<'_, T>,
+    setup: &Setup,
+    live: &LiveReplica<'_, R, E>,
+) {
     let mut reader = live.reader.lock(host.rt);
     if let Err(fault) = take_batches(host, setup, &mut *reader, live) {
         live.ending.note(host.rt, fault);
@@ -258,7 +315,7 @@ fn take_batches<T: Wait, R: Read, E: Write>(
     host: Host<'_, T>,
     setup: &Setup,
     reader: &mut R,
-    live: &LiveReplica<R, E>,
+    live: &LiveReplica<'_, R, E>,
 ) -> Result<(), NodeFault> {
     let mut input = BatchReader::new(host.alloc);
     for _ in host.rt.forever() {
@@ -288,7 +345,7 @@ fn take_batches<T: Wait, R: Read, E: Write>(
 fn pass_over<T: Wait, R, E: Write>(
     host: Host<'_, T>,
     fault: RequestFault,
-    live: &LiveReplica<R, E>,
+    live: &LiveReplica<'_, R, E>,
 ) -> Result<(), NodeFault> {
     if !matches!(fault, RequestFault::Line { .. }) {
         return Err(NodeFault::Input(fault));

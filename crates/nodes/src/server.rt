@@ -5,6 +5,7 @@ use crate::faults::NodeFault;
 use crate::host::Host;
 use crate::pace::Pace;
 use crate::saying::was_just_now;
+use figures::Figures;
 use journal::JournalStore;
 use rows::limits::REPLICAS_MAX;
 use shared::{Line, Origin, Seat};
@@ -23,6 +24,8 @@ pub struct Server<L: Origin, P: Port + Drop> {
     /// How many commits were said to be durable, and when.
     told: u64,
     told_at: Option<Instant>,
+    /// When it began, if the clock tells.
+    begun_at: Option<Instant>,
 }
 
 impl<L: Origin, P: Port + Drop> Server<L, P> {
@@ -33,6 +36,7 @@ impl<L: Origin, P: Port + Drop> Server<L, P> {
             pace,
             told: 0,
             told_at: None,
+            begun_at: None,
         }
     }
 
@@ -52,17 +56,10 @@ impl<L: Origin, P: Port + Drop> Server<L, P> {
         &mut self,
         host: Host<'_, T>,
         line: &Line<L, J, H>,
+        figures: &Figures,
         errors: &Mutex<E>,
     ) -> Result<(), NodeFault> {
-        let mut left = self.pace.turns;
-        for _ in host.rt.forever() {
-            if !take_turn(&mut left) {
-                self.say_traffic(host, errors);
-                return Ok(());
-            }
-            self.turn(host, line, errors)?;
-        }
-        unreachable!()
+        self.serve_turns(host, line, &Ending::of(0), figures, errors)
     }
 
     /// Serves until the node ends: at once if it is stopped, and otherwise, once all that came is done, until the
@@ -72,6 +69,7 @@ impl<L: Origin, P: Port + Drop> Server<L, P> {
         host: Host<'_, T>,
         line: &Line<L, J, H>,
         ending: &Ending,
+        figures: &Figures,
         errors: &Mutex<E>,
     ) -> Result<(), NodeFault> {
         for _ in host.rt.forever() {
@@ -81,12 +79,35 @@ impl<L: Origin, P: Port + Drop> Server<L, P> {
             if ending.is_done() {
                 break;
             }
-            self.turn(host, line, errors)?;
+            self.turn(host, line, figures, errors)?;
         }
         if ending.has_failed(host.rt) {
             return Ok(());
         }
-        self.serve(host, line, errors)
+        self.serve_turns(host, line, ending, figures, errors)
+    }
+
+    /// Serves until the turns are used up, or the node is stopped.
+    fn serve_turns<J: JournalStore, H: Wait + Drop, T: Wait + Clock, E: Write>(
+        &mut self,
+        host: Host<'_, T>,
+        line: &Line<L, J, H>,
+        ending: &Ending,
+        figures: &Figures,
+        errors: &Mutex<E>,
+    ) -> Result<(), NodeFault> {
+        let mut left = self.pace.turns;
+        for _ in host.rt.forever() {
+            if ending.is_stopped() {
+                return Ok(());
+            }
+            if !take_turn(&mut left) {
+                self.say_traffic(host, errors);
+                return Ok(());
+            }
+            self.turn(host, line, figures, errors)?;
+        }
+        unreachable!()
     }
 
     /// Serves until no node is left that it serves, or the turns are used up.
@@ -97,39 +118,63 @@ impl<L: Origin, P: Port + Drop> Server<L, P> {
         left: &AtomicU64,
     ) -> Result<(), NodeFault> {
         let unsaid = Mutex::new(Vec::new(host.alloc));
+        let figures = Figures::without_replicas(host.alloc);
         let mut turns = self.pace.turns;
         for _ in host.rt.forever() {
             if left.load(Ordering::SeqCst) == 0 || !take_turn(&mut turns) {
                 return Ok(());
             }
-            self.turn(host, line, &unsaid)?;
+            self.turn(host, line, &figures, &unsaid)?;
         }
         unreachable!()
     }
 
-    /// Serves one turn, and says what it did.
+    /// Serves one turn, notes what it did, and says it.
     fn turn<J: JournalStore, H: Wait + Drop, T: Wait + Clock, E: Write>(
         &mut self,
         host: Host<'_, T>,
         line: &Line<L, J, H>,
+        figures: &Figures,
         errors: &Mutex<E>,
     ) -> Result<(), NodeFault> {
         if self.node.turn(host.rt, line).is_err() {
             return Err(NodeFault::Socket);
         }
+        figures.note_time(self.millis(host));
+        figures.note_traffic(self.node.traffic());
+        self.note_asked(host, figures, errors);
         if self.pace.says {
-            self.say_asked(host, errors);
             self.say_durable(host, errors);
         }
         Ok(())
     }
 
-    /// Says which replicas have asked.
-    fn say_asked<T: Wait, E: Write>(&mut self, host: Host<'_, T>, errors: &Mutex<E>) {
+    /// How many milliseconds ago it began; 0 if the clock does not tell.
+    fn millis<T: Clock>(&mut self, host: Host<'_, T>) -> u64 {
+        let Some(begun_at) = &self.begun_at else {
+            self.begun_at = Instant::now(host.rt).ok();
+            return 0;
+        };
+        match begun_at.elapsed(host.rt) {
+            Ok(elapsed) => u64::try_from(elapsed.as_millis()).unwrap_or(u64::MAX),
+            Err(_) => 0,
+        }
+    }
+
+    /// Notes which replicas have asked, and says it.
+    fn note_asked<T: Wait, E: Write>(
+        &mut self,
+        host: Host<'_, T>,
+        figures: &Figures,
+        errors: &Mutex<E>,
+    ) {
         for replica in 0..REPLICAS_MAX {
             if let Some(version) = self.node.take_asked(replica) {
-                let mut errors = errors.lock(host.rt);
-                let _ = writeln!(&mut *errors, "replica {replica} asked at version {version}");
+                figures.note_told(replica, version);
+                if self.pace.says {
+                    let mut errors = errors.lock(host.rt);
+                    let _ = writeln!(&mut *errors, "replica {replica} asked at version {version}");
+                }
             }
         }
     }

@@ -10,4 +10,4 @@ mod failures;
 #[cfg(test)]
 mod jobs;
 #[cfg(test)]
-mod reports;
+mod node_reports;

@@ -1,5 +1,5 @@
 -- A request without jobs takes none.
-use Rattle.std.proofs.Common.{◌≡◌, ap, sym, ◌∙◌, subst, ℕ, List, [], false, not}
+use Rattle.std.proofs.Common.{◌≡◌, refl, ap, sym, ◌∙◌, subst, ℕ, List, [], false, not}
 use Rattle.std.specs.Prelude.{bytes_eq, codes}
 use Rattle.http_uri.specs.Uri.{uri_path}
 use Rattle.rows.specs.Shape.{shape_of}
@@ -20,9 +20,17 @@ returns-then-ne g c = λ kept.
         λ has. absurd (cc (sym c.if-ne.true ∙ (c.ne.ensures
             ∙ ap (λ (path : List ℕ). not (bytes_eq path (codes "/jobs")))
             (c.path-path.ensures.value ∙ (ap uri_path c.uri.ensures ∙ has.1))))),
+        λ no. refl,
       ),
     )
 
 pub returns-then-ne-2 : goal.returns-then-ne-2
-returns-then-ne-2 g c = λ kept.
-    (kept, ([], takes-none g.L.Line.workers (shape_of g.L.Line.schema) c.args.self.now.job_seat, λ has. c.tell_no_post.ensures []))
+returns-then-ne-2 g c = λ kept. (
+  kept,
+  (
+    [],
+    takes-none g.L.Line.workers (shape_of g.L.Line.schema) c.args.self.now.job_seat,
+    λ has. c.tell_no_post.ensures [],
+    λ no. refl,
+  ),
+)
