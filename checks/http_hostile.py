@@ -459,9 +459,10 @@ def slowly(client, data, ends):
         time.sleep(0.5)
 
 
-def slow_client(node, data):
-    """After how many seconds the connection of a slow client ends, and what came."""
+def slow_client(node, data, at_once=b""):
+    """After how many seconds the connection of a client ends that is slow behind what it sends at once, and what came."""
     client = Client(node.http)
+    client.send(at_once)
     sender = threading.Thread(target=slowly, args=(client, data, time.monotonic() + REQUEST_SECONDS + 2 * LATE))
     sender.start()
     found = seconds_until_end(client.socket, IDLE_SECONDS + 2 * LATE)
@@ -477,12 +478,7 @@ def slow_head(tally, node):
 
 def slow_body(tally, node):
     data = post(node.http, job(0, insert_of(1)))
-    with Client(node.http) as client:
-        client.send(data[:-30])
-        sender = threading.Thread(target=slowly, args=(client, data[-30:-1], time.monotonic() + REQUEST_SECONDS + 2 * LATE))
-        sender.start()
-        seconds, came = seconds_until_end(client.socket, IDLE_SECONDS + 2 * LATE)
-        sender.join()
+    seconds, came = slow_client(node, data[-30:-1], data[:-30])
     tally.case("a body with a byte each half second", (is_about(seconds, REQUEST_SECONDS), came), (True, b""))
 
 

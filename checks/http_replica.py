@@ -11,10 +11,10 @@ import time
 from harness import SECONDS_MAX, WORDS, Tally, contents, run, write
 from http_cases import BODY_MAX, PAGE_FIELDS, allowed, fault_of, refused
 from http_client import PLAIN, UNCACHED, Answer, Client, Malformed, all_answers, exchanged, get, head, request, request_in_chunks
-from http_client import seconds_until_end, shown, text
+from http_client import shown, text
 from http_figures import figures, status_of
-from http_hostile import HOST, IDLE_SECONDS, LATE, OTHERS_SECONDS, REQUEST_SECONDS, answers_to, attempt, batches, changed, deaf_client
-from http_hostile import goes_on, idle_behind_answer, idle_client, is_about, padded, slow_crowd, slow_head, slowly
+from http_hostile import HOST, OTHERS_SECONDS, REQUEST_SECONDS, answers_to, attempt, batches, changed, deaf_client
+from http_hostile import goes_on, idle_behind_answer, idle_client, is_about, padded, slow_client, slow_crowd, slow_head, slowly
 from http_nodes import ANY_PORT, REPLICA_PLACES, SETTINGS, Pair, Replica, as_json, batch, insert_of, job
 from http_replica_load import COUNT, JSON_WANTED, TEXT, drawn_query, end_under_load, in_json, input_beside, kills, lone_status
 from http_replica_load import many_at_once, primary_away, report, shown_json, turns_used_up, wrong_words
@@ -438,12 +438,7 @@ def fresh_nodes(tally, at):
 
 def slow_batch(tally, node):
     data = batch(node.http, [COUNT])
-    with Client(node.http) as client:
-        client.send(data[:-30])
-        sender = threading.Thread(target=slowly, args=(client, data[-30:-1], time.monotonic() + REQUEST_SECONDS + 2 * LATE))
-        sender.start()
-        seconds, came = seconds_until_end(client.socket, IDLE_SECONDS + 2 * LATE)
-        sender.join()
+    seconds, came = slow_client(node, data[-30:-1], data[:-30])
     tally.case("a batch with a byte each half second", (is_about(seconds, REQUEST_SECONDS), came), (True, b""))
 
 

@@ -7,7 +7,7 @@ ghost use Rattle.sha2.specs.Sha256.{sha256};
 
 use crate::failure::Failure;
 use crate::files::refused;
-use crate::listening::at_address;
+use crate::listening::bind_failure;
 use crate::program::VERSION;
 use figures::Figures;
 use gateway::{
@@ -30,7 +30,7 @@ use std::thread::Threads;
 
 /// What clients of a primary are served with, besides a line.
 #[derive(Drop)]
-pub struct Clients {
+pub struct JobClients {
     listening: Listening,
     /// The digest of the schema file.
     digest: String,
@@ -56,7 +56,7 @@ pub fn clients_at<T: Net + Files<File = File>, E: Write>(
     journal: &str,
     says: bool,
     errors: &mut E,
-) -> Result<Clients, Failure> {
+) -> Result<JobClients, Failure> {
     let Ok(digest) = digest_text(host.alloc, schema) else {
         return Err(Failure::Memory);
     };
@@ -66,18 +66,12 @@ pub fn clients_at<T: Net + Files<File = File>, E: Write>(
     };
     let listening = match Listening::at(host.rt, address) {
         Ok(listening) => listening,
-        Err(error) => {
-            return Err(at_address(
-                host.alloc,
-                address,
-                format!(in host.alloc; "bind: {error}").ok(),
-            ));
-        }
+        Err(error) => return Err(bind_failure(host.alloc, address, error)),
     };
     if says {
         say_address(listening.address(), errors);
     }
-    Ok(Clients {
+    Ok(JobClients {
         listening,
         digest,
         journal,
@@ -98,11 +92,7 @@ pub fn queries_at<T: Net, E: Write>(
             }
             Ok(listening)
         }
-        Err(error) => Err(at_address(
-            host.alloc,
-            address,
-            format!(in host.alloc; "bind: {error}").ok(),
-        )),
+        Err(error) => Err(bind_failure(host.alloc, address, error)),
     }
 }
 
@@ -123,7 +113,7 @@ pub fn digest_text(alloc: Global, bytes: &[u8]) -> Result<String, AllocError>
 }
 
 /// Has a primary do its work, and serves its clients beside that. The seats at which they were served are left in `seats`.
-pub fn run_with<
+pub fn run_with_clients<
     L: Origin + Send + Sync,
     T: Threads + Wait + Net + Clock + RandomSource + Sync,
     R: Read + Send,
@@ -135,13 +125,13 @@ pub fn run_with<
     primary: &mut Primary<L, UdpPort>,
     work: &Work<'_>,
     streams: &mut Streams<R, W, E>,
-    clients: Clients,
+    clients: JobClients,
     seats: &mut Option<DeskSeats<L>>,
 ) -> Result<(), NodeFault>
     requires workers { work.now.setup.now.workers ≡ L.workers }
     requires new { All (λ worker. worker.answers ≡ []) primary.old.crew.items }
 {
-    let Clients {
+    let JobClients {
         listening,
         digest,
         journal,

@@ -5,7 +5,7 @@ use crate::files::failed;
 use nodes::Host;
 use sockets::UdpPort;
 use std::alloc::Global;
-use std::io::Write;
+use std::io::{self, Write};
 use std::net::{Net, SocketAddr};
 
 /// The addresses of a node: its own, that of its primary if it is a replica, and those of its replicas.
@@ -37,11 +37,7 @@ pub fn listening<T: Net, E: Write>(
             }
             Ok(port)
         }
-        Err(error) => Err(at_address(
-            host.alloc,
-            listen,
-            format!(in host.alloc; "bind: {error}").ok(),
-        )),
+        Err(error) => Err(bind_failure(host.alloc, listen, error)),
     }
 }
 
@@ -58,8 +54,13 @@ pub fn socket_failure(alloc: Global, port: &UdpPort) -> Failure {
     }
 }
 
+/// What is said of an address that the system does not bind.
+pub fn bind_failure(alloc: Global, address: SocketAddr, error: io::Error) -> Failure {
+    at_address(alloc, address, format!(in alloc; "bind: {error}").ok())
+}
+
 /// What failed at an address, and why.
-pub fn at_address(alloc: Global, address: SocketAddr, why: Option<String>) -> Failure {
+fn at_address(alloc: Global, address: SocketAddr, why: Option<String>) -> Failure {
     match format!(in alloc; "{address}") {
         Ok(address) => failed(alloc, address.as_str(), why),
         Err(_) => Failure::Memory,

@@ -3,7 +3,7 @@
 ghost use Rattle.std.specs.Prelude.{◌≡◌, ◌<◌, ◌≤◌, IfOk};
 ghost use Rattle.rows.specs.Limits.{workers_max};
 
-use crate::clients::{Clients, DeskSeats, clients_at, run_with};
+use crate::clients::{DeskSeats, JobClients, clients_at, run_with_clients};
 use crate::commands::{PrimaryWords, wrong};
 use crate::failure::{Failure, failure_of};
 use crate::files::{failed, file_bytes, len_of, refused, setup_in};
@@ -206,7 +206,7 @@ fn at_port<
     path: &str,
     core: PrimaryCore<FileJournal>,
     port: UdpPort,
-    clients: Option<Clients>,
+    clients: Option<JobClients>,
     work: &Work<'_>,
     streams: &mut Streams<R, W, E>,
 ) -> Result<(), Failure>
@@ -238,7 +238,7 @@ fn named<
     host: Host<'_, T>,
     core: PrimaryCore<FileJournal>,
     port: UdpPort,
-    clients: Option<Clients>,
+    clients: Option<JobClients>,
     work: &Work<'_>,
     streams: &mut Streams<R, W, E>,
 ) -> Result<(), Ended>
@@ -262,7 +262,7 @@ fn on_line<
     core: PrimaryCore<FileJournal>,
     start: Start,
     port: UdpPort,
-    clients: Option<Clients>,
+    clients: Option<JobClients>,
     work: &Work<'_>,
     streams: &mut Streams<R, W, E>,
 ) -> Result<(), Ended>
@@ -304,7 +304,7 @@ fn on_line<
     let mut seats = None;
     let ran = match clients {
         Some(clients) => {
-            run_with(
+            run_with_clients(
                 host,
                 &line,
                 &mut primary,

@@ -168,7 +168,7 @@ fn serve_over<
     );
     match served {
         Ok(served) => served,
-        Err(_) => Err(NodeFault::Threads),
+        Err(error) => Err(NodeFault::Clients(error)),
     }
 }
 

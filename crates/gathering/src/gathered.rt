@@ -141,9 +141,11 @@ impl Gathering {
         self.waiting.lock(rt).fault.take()
     }
 
-    /// Answers all requests so.
+    /// Answers so all requests that there are now. Clients that ask again meanwhile wait behind these: so many are taken, and no more,
+    /// or clients that never stop would keep the thread that serves the replica.
     fn tell_all<R: Wait>(&self, rt: &R, end: End) {
-        for _ in rt.forever() {
+        let count = self.waiting.lock(rt).count();
+        for _ in 0..count {
             let Some(place) = self.waiting.lock(rt).take_any() else {
                 return;
             };

@@ -48,6 +48,11 @@ impl Waiting {
         self.requests.len()
     }
 
+    /// How many there are, those that are under way too.
+    pub fn count(&self) -> usize {
+        self.requests.len().saturating_add(self.under_way.len())
+    }
+
     /// Puts a request behind those that wait. Fails only if out of memory.
     pub fn push(&mut self, place: usize, queries: Vec<Query>) -> Result<(), AllocError> {
         self.requests.push_back(Request { place, queries })?;

@@ -84,9 +84,9 @@ impl<L: Origin, P: Port + Drop> Primary<L, P> {
         })
     }
 
-    /// Does its work: jobs of before first, and then it serves; or jobs as they come, while it serves. Only then something else
-    /// is done beside it, in the thread that calls, which is to end once the flag that it is given is set: all other threads
-    /// of the node have ended then. A fault of that ends the node.
+    /// Does its work: jobs of before first, and then it serves; or jobs as they come, while it serves. In the second case alone
+    /// `beside` is called too, in the thread that calls this. It is to end once the flag that it is given is set: all other
+    /// threads of the node have ended then. Its fault ends the node.
     pub fn run<
         J: JournalStore + Drop + Send,
         H: Wait + Drop + Send + Sync,
