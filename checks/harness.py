@@ -8,6 +8,7 @@ words:
 
     --only PART    one part alone
     --few          a twentieth of the inputs, for a quick look
+    --every        all inputs of a part that tries some of them alone
     --jobs N       how many processes at once; as many as there are processors if not given
     --shown N      how many failures of a part are shown
 
@@ -41,6 +42,7 @@ PARSER.add_argument("program", nargs="?", default=f"{ROOT}/crates/batchdb/out/ba
 if os.path.basename(sys.argv[0]) in ("hostile", "faults", "http"):
     PARSER.add_argument("--only", metavar="PART", help="one part alone")
     PARSER.add_argument("--few", action="store_true", help="a twentieth of the inputs, for a quick look")
+    PARSER.add_argument("--every", action="store_true", help="all inputs of a part that tries some of them alone")
     PARSER.add_argument("--jobs", type=int, default=len(os.sched_getaffinity(0)), metavar="N", help="how many processes at once")
     PARSER.add_argument("--shown", type=int, default=5, metavar="N", help="how many failures of a part are shown")
 if os.path.basename(sys.argv[0]) == "page":
@@ -264,13 +266,14 @@ class Lines:
 
 
 class Node:
-    """A program that runs in the background; it is killed at the end, or after this many seconds."""
+    """A program that runs in the background; it is killed at the end, or after this many seconds. A shell sets its limit, if it has one."""
 
     def __init__(self, *words, limit="-c 0", front=(), seconds=SECONDS_MAX, **more):
         # One arena: the C library sets aside 64 MB for each other one, which would hide what a number takes.
         more.setdefault("env", {**os.environ, "MALLOC_ARENA_MAX": "1"})
         pipes = {name: subprocess.PIPE for name in ("stdin", "stdout", "stderr")}
-        limited = [*front, "sh", "-c", f'ulimit {limit}; exec "$0" "$@"', PROGRAM, *words]
+        shell = ["sh", "-c", f'ulimit {limit}; exec "$0" "$@"'] if limit else []
+        limited = [*front, *shell, PROGRAM, *words]
         self.process = subprocess.Popen(limited, text=True, bufsize=1, **{**pipes, **more})
         self.watch = threading.Timer(seconds, self.process.kill)
         self.watch.start()
@@ -324,21 +327,28 @@ class Node:
         return int(found["VmHWM"]), int(found["VmPeak"])
 
 
-def bound():
+def own_host():
+    """An address of the loopback that no other process has: where a node of this one has ended, its port may soon be that of another's
+    node, and who still asks there would be answered by that."""
+    number = os.getpid()
+    return f"127.{number >> 16}.{number >> 8 & 255}.{number & 255}"
+
+
+def bound(host="127.0.0.1"):
     """A socket on a free port."""
     it = socket.socket(socket.AF_INET, socket.SOCK_DGRAM)
-    it.bind(("127.0.0.1", 0))
+    it.bind((host, 0))
     it.settimeout(SECONDS_MAX / 4)
     return it
 
 
 def word_of(it):
     """The address of a socket, as a node is given it."""
-    return "127.0.0.1:{}".format(it.getsockname()[1])
+    return "{}:{}".format(*it.getsockname())
 
 
-def free_address():
-    with bound() as it:
+def free_address(host="127.0.0.1"):
+    with bound(host) as it:
         return word_of(it)
 
 

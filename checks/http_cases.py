@@ -64,6 +64,7 @@ def unread_bodies(tally, client):
         ("a job without its end", f"job 0\n{insert_of(60)}\n", "line 3: a job without its end"),
         ("a second job without its end", good + "job 0\n", "line 5: a job without its end"),
         ("get behind a job", good + "get acct 1 0\n", "line 4: no line of a job"),
+        ("a base behind a job", good + "base\n", "line 4: no line of a job"),
         ("CR LF", good.replace("\n", "\r\n"), "line 1: bad words"),
         ("a byte order mark", "\ufeff" + good, "line 1: no line of a job"),
         ("a byte that is no text", good + "job 0\ninsert acct \udcff 1 1\nend\n", "line 5: bad words"),

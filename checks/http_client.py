@@ -66,9 +66,10 @@ def body_length(status, fields, is_head):
     return 0 if is_head else int(length)
 
 
-def check_fields(answer):
-    """An answer has the fields that one of its kind has: that it is not to be kept, and when it was made."""
-    is_refused = answer.status in REFUSED and answer.fields.get("content-length") == "0"
+def check_fields(answer, may_lack=False):
+    """An answer has the fields that one of its kind has: that it is not to be kept, and when it was made. It may lack the second, and
+    503 both, if memory may be refused for them."""
+    is_refused = answer.status in ((*REFUSED, 503) if may_lack else REFUSED) and answer.fields.get("content-length") == "0"
     if answer.status < 200 or is_refused:
         return
     if answer.fields.get("cache-control") != UNCACHED:
@@ -77,7 +78,7 @@ def check_fields(answer):
     if (answer.status, answer.body) in UNDATED:
         if date is not None:
             raise Malformed(f"a date of {answer}")
-    elif answer.body and date is None:
+    elif answer.body and date is None and not may_lack:
         raise Malformed(f"no date of {answer}")
     elif date is not None and not -AHEAD <= age_of(date) <= ON_ITS_WAY:
         raise Malformed(f"the date of {answer}")
@@ -96,10 +97,10 @@ def age_of(date):
 
 
 class Answers:
-    """Answers out of bytes as they come."""
+    """Answers out of bytes as they come, which may lack fields or not."""
 
-    def __init__(self, data=b""):
-        self.data, self.start = data, 0
+    def __init__(self, data=b"", may_lack=False):
+        self.data, self.start, self.may_lack = data, 0, may_lack
 
     def add(self, data):
         self.data = self.data[self.start:] + data
@@ -119,7 +120,7 @@ class Answers:
             return None
         self.start = stop
         answer = Answer(status, fields, self.data[begin:stop])
-        check_fields(answer)
+        check_fields(answer, self.may_lack)
         return answer
 
     def rest(self):
@@ -187,6 +188,10 @@ def request_in_chunks(address, target, body, sizes, *lines, extension=b"", trail
 def connected(address, source="127.0.0.1"):
     # (from ports of any loopback address, since those of one are not enough for so many connections)
     it = socket.create_connection(address, SECONDS_OF_AN_ANSWER, source_address=(source, 0))
+    # A port at which nobody listens may be the one that the system chose for this side: then it is connected to itself.
+    if it.getsockname() == tuple(address):
+        it.close()
+        raise ConnectionRefusedError(f"nobody listens at {address}")
     it.setsockopt(socket.IPPROTO_TCP, socket.TCP_NODELAY, 1)
     return it
 
@@ -194,8 +199,8 @@ def connected(address, source="127.0.0.1"):
 class Client:
     """A connection to a node, on which one waits for answers."""
 
-    def __init__(self, address, seconds=SECONDS_OF_AN_ANSWER):
-        self.address, self.answers = address, Answers()
+    def __init__(self, address, seconds=SECONDS_OF_AN_ANSWER, may_lack=False):
+        self.address, self.answers = address, Answers(may_lack=may_lack)
         self.socket = connected(address)
         self.socket.settimeout(seconds)
         self.has_ended = self.was_reset = False

@@ -28,9 +28,10 @@ Commit = collections.namedtuple("Commit", "worker changes")
 class Primary(Node):
     """A live primary with an HTTP service, which runs until it is killed."""
 
-    def __init__(self, at, *replicas, journal="journal", turns="0", http=ANY_PORT, listen=ANY_PORT, **more):
+    def __init__(self, at, *replicas, journal="journal", turns="0", http=ANY_PORT, listen=ANY_PORT, base=None, **more):
         self.schema, self.journal = f"{at}/schema", f"{at}/{journal}"
         words = ["primary", self.schema, self.journal, listen, *replicas, "--turns", turns, "--live", "--http", http, "--say"]
+        words += ["--base", base] if base else []
         super().__init__(*words, **{"stdin": subprocess.DEVNULL, "seconds": SECONDS_OF_A_NODE, **more})
         self.http = http_of(self)
 

@@ -8,14 +8,14 @@ import random
 import threading
 import time
 
-from harness import SECONDS_MAX, WORDS, Tally, contents, run, write
+from harness import SECONDS_MAX, WORDS, Tally, contents, free_address, run, write
 from http_cases import BODY_MAX, PAGE_FIELDS, allowed, fault_of, refused
 from http_client import PLAIN, UNCACHED, Answer, Client, Malformed, all_answers, exchanged, get, head, request, request_in_chunks
 from http_client import shown, text
 from http_figures import figures, status_of
 from http_hostile import HOST, OTHERS_SECONDS, REQUEST_SECONDS, answers_to, attempt, batches, changed, deaf_client
 from http_hostile import goes_on, idle_behind_answer, idle_client, is_about, padded, slow_client, slow_crowd, slow_head, slowly
-from http_nodes import ANY_PORT, REPLICA_PLACES, SETTINGS, Pair, Replica, as_json, batch, insert_of, job
+from http_nodes import ANY_PORT, REPLICA_PLACES, SETTINGS, Pair, Primary, Replica, as_json, batch, insert_of, job
 from http_replica_load import COUNT, JSON_WANTED, TEXT, drawn_query, end_under_load, in_json, input_beside, kills, lone_status
 from http_replica_load import many_at_once, primary_away, report, shown_json, turns_used_up, wrong_words
 
@@ -276,6 +276,33 @@ def status_and_figures(tally, at):
             other.socket.close()
 
 
+# How many datagrams a replica receives while no batch waits; the turn in which it has them ends with 1,024 at most.
+IDLE_DATAGRAMS, TURN_DATAGRAMS, BODY_JOBS = 65_536, 1024, 20_000
+
+
+def idle_replica(tally, at):
+    """A replica in which no batch waits receives so many datagrams and no more, and answers the next batch all the same."""
+    count = IDLE_DATAGRAMS + BODY_JOBS
+
+    def datagrams(client, direction):
+        return figures(client)[1]["batchdb_datagrams_total", "direction", direction]
+
+    listens, asks = free_address(), free_address()
+    # (what a base drops is not pushed any more)
+    with Primary(at, asks, journal="idle", listen=listens, base="0") as node, Replica(at, asks, listens) as replica:
+        with Client(node.http) as primary:
+            for first in range(0, count, BODY_JOBS):
+                primary.post("".join(job(0, insert_of(row)) for row in range(first, min(first + BODY_JOBS, count))))
+            end = time.monotonic() + SECONDS_MAX
+            while datagrams(primary, "sent") < count and time.monotonic() < end:
+                time.sleep(0.05)
+            tally.case("frames that are pushed to an idle replica", datagrams(primary, "sent") >= count, True)
+        with Client(replica.http) as client:
+            received = datagrams(client, "received")
+            tally.case("datagrams that it receives", received <= IDLE_DATAGRAMS + TURN_DATAGRAMS or received, True)
+            tally.case("its next batch", shown(client.ask(batch(client.address, [COUNT]))), text(200, report(count, [[str(count)]])))
+
+
 def status(pair, **members):
     """The status of a replica: these members, and those that do not change."""
     schema = hashlib.sha256(contents(pair.replica.schema)).hexdigest()
@@ -499,8 +526,8 @@ def replica(at):
     write(f"{at}/schema", SETTINGS)
     with concurrent.futures.ThreadPoolExecutor() as pool:
         slow = pool.submit(slow_ones, at)
-        for case in (one_replica, status_and_figures, many_at_once, input_beside, primary_away, kills, turns_used_up, end_under_load,
-                     wrong_words, crowd, fresh_nodes):
+        for case in (one_replica, status_and_figures, idle_replica, many_at_once, input_beside, primary_away, kills, turns_used_up,
+                     end_under_load, wrong_words, crowd, fresh_nodes):
             attempt(tally, case, at)
         tally.add(slow.result())
     return tally

@@ -475,13 +475,34 @@ class Replica:
         self.number, self.boots, self.boot = number, boots, boots[-1]
         self.request, self.version, self.broken = 0, 0, False
         self.known = [set() for _ in range(workers)]
+        # The numbers of the pieces that it has, of the image at that base.
+        self.pieces_base, self.pieces = 0, set()
         self.waiting, self.batch, self.head = [], None, None
 
+    def is_by_image(self):
+        """Whether its batch goes by the image at the base of its Head."""
+        return self.head is not None and self.head.base > self.version
+
+    def low(self, worker):
+        """From which seq on it needs the worker's frames."""
+        return self.head.lows[worker] if self.is_by_image() else 0
+
     def first_missing(self, worker):
-        seq = 0
+        seq = self.low(worker)
         while seq in self.known[worker]:
             seq += 1
         return seq
+
+    def first_missing_piece(self):
+        number = 0
+        while number in self.pieces:
+            number += 1
+        return number
+
+    def lacked_piece(self):
+        """The number of the first piece that is missing of the image by which it goes; or None."""
+        number = self.first_missing_piece()
+        return number if self.is_by_image() and number < self.head.pieces else None
 
     def lacked(self):
         """The least worker of whom a frame below the Head's count is missing, and the first such; or None."""
@@ -489,6 +510,21 @@ class Replica:
             if self.first_missing(worker) < count:
                 return worker, self.first_missing(worker)
         return None
+
+    def take(self, head):
+        """Takes a Head. A base that is not above its version is none for its pieces."""
+        base = head.base if head.base > self.version else 0
+        if base != self.pieces_base:
+            self.pieces_base, self.pieces = base, set()
+        self.head = head
+
+    def catch_up(self):
+        """Brings the tables to the version of its Head. An image stands for the frames below its base counts."""
+        if self.is_by_image():
+            for known, low in zip(self.known, self.head.lows):
+                known.update(range(low))
+            self.pieces_base, self.pieces = 0, set()
+        self.version = self.head.version
 
 
 class Draft:
@@ -709,9 +745,20 @@ class World:
                 return ["ahead"]
             replica.known[datagram.worker].add(datagram.seq)
             return ["stored"]
+        if isinstance(datagram, Piece):
+            if not replica.is_by_image() or datagram.base != replica.head.base or datagram.number >= replica.head.pieces:
+                return ["ignored"]
+            if not self.schema.has_tables(datagram.entries):
+                return ["ignored"]
+            if datagram.number in replica.pieces:
+                return ["repeat"]
+            if datagram.number >= replica.first_missing_piece() + WINDOW:
+                return ["ahead"]
+            replica.pieces.add(datagram.number)
+            return ["stored"]
         if isinstance(datagram, Head) and datagram[:3] == (replica.number, replica.boot, replica.request):
-            if replica.batch is not None and replica.head is None and datagram.base <= replica.version:
-                replica.head = datagram
+            if replica.batch is not None and replica.head is None:
+                replica.take(datagram)
                 return [f"head {datagram.version}"]
         return ["ignored"]
 
@@ -753,14 +800,25 @@ class World:
             replica.request += 1
         return [self.send(spell(Ask(replica.number, replica.boot, replica.request)))]
 
+    def on_renew(self, number):
+        replica = self.replicas[int(number)]
+        if replica.broken or replica.batch is None or replica.head is None:
+            return ["broken" if replica.broken else "empty" if replica.batch is None else "no head"]
+        replica.head = None
+        replica.request += 1
+        return [self.send(spell(Ask(replica.number, replica.boot, replica.request)))]
+
     def on_run(self, number):
         replica = self.replicas[int(number)]
         if replica.broken or replica.batch is None or replica.head is None:
             return ["broken" if replica.broken else "no batch" if replica.batch is None else "waiting head"]
+        piece = replica.lacked_piece()
+        if piece is not None:
+            return [f"waiting piece {piece}", self.send(spell(Pull(replica.number, replica.head.base, piece)))]
         lacked = replica.lacked()
         if lacked is not None:
             return ["waiting {} {}".format(*lacked), self.send(spell(Want(replica.number, *lacked)))]
-        replica.version = replica.head.version
+        replica.catch_up()
         lines = report(self.schema_at(replica.version), replica.version, self.rows_after(replica.version), replica.batch)
         replica.batch = replica.head = None
         return lines
@@ -793,8 +851,8 @@ class World:
 
     TAKES_MEMORY = {
         "begin": ("tx",), "insert": ("ok",), "set": ("ok",), "delete": ("ok",), "column": ("ok",), "commit": ("ticket",),
-        "start": ("durable",), "push": ("sent",), "ask": ("sent",), "deliver": ("sent", "stored"), "raw": ("sent", "stored"),
-        "open": ("opened",), "run": ("waiting", "version"), "dump": ("version",), "restart": ("boot",),
+        "start": ("durable",), "push": ("sent",), "ask": ("sent",), "renew": ("sent",), "deliver": ("sent", "stored"),
+        "raw": ("sent", "stored"), "open": ("opened",), "run": ("waiting", "version"), "dump": ("version",), "restart": ("boot",),
     }
 
     def without_memory(self, line):
@@ -822,7 +880,7 @@ class World:
                     world = copy.deepcopy(self)
                     other = world.replicas[int(words[0])]
                     if answered == "memory":
-                        other.version = replica.head.version
+                        other.catch_up()
                     else:
                         other.broken = True
                     found.append(([answered], world))

@@ -12,6 +12,8 @@ OF_OTHER_MAGIC, OF_VERSION_1, OF_LAST_2 = "4245" + FRAME[4:], "424401" + FRAME[6
 # The Head of version 2, whose base is commit 1, in one piece; base counts and counts of worker 0 are 1 and 1, of worker 1 0 and 1.
 HEAD_OF_BASE = "424403030050" "00" + "0000000000000001" * 2 + "0000000000000002" + "0000000000000001" * 2 + "02" \
     + "0000000000000001" * 2 + "00" * 8 + "0000000000000001"
+# The piece of that base, with row 7.
+PIECE = "424403050035" "0000000000000001" "0000000000000000" "01" "0001" "0100" "0000000000000007" "0010" "0000000000000005" + "ff" * 8
 
 ROW_7_PENDING = """
 begin -> tx 0 at 0
@@ -150,16 +152,54 @@ open 0 query acct get count sum 0 -> opened 1
 ask 0 -> sent 4 23
 deliver 4 p -> sent 5 80
 show 5 -> {HEAD_OF_BASE}
-deliver 5 r0 -> ignored
-run 0 -> waiting head
+deliver 5 r0 -> head 2
+run 0 -> waiting piece 0 | sent 6 23
 base -> base 2 pieces 1
+deliver 6 p -> ignored
 push 1 0 -> no frame
 stop 0 -> stopped
 base -> stopped
 start -> durable 2
-deliver 2 p -> sent 6 54
-deliver 6 r1 -> stored
+deliver 2 p -> sent 7 54
+deliver 7 r1 -> stored
 run 1 -> version 1 queries 1 | query 0 rows 1 | 1
+"""),
+    "an image": (ONE_TABLE, f"""
+{ROW_7}
+base -> base 1 pieces 1
+push 0 0 -> no frame
+begin -> tx 1 at 1
+insert 1 acct 8 1 1 -> ok
+commit 1 1 -> ticket 2
+flush 1 -> durable 2
+open 0 query acct get count sum 0 -> opened 1
+ask 0 -> sent 0 23
+deliver 0 p -> sent 1 80
+deliver 1 r0 -> head 2
+run 0 -> waiting piece 0 | sent 2 23
+deliver 2 p -> sent 3 53
+deliver 3 r0 -> stored
+run 0 -> waiting 1 0 | sent 4 16
+deliver 4 p -> sent 5 54
+deliver 5 r0 -> stored
+run 0 -> version 2 queries 1 | query 0 rows 1 | 2 6
+deliver 3 r0 -> ignored
+show 3 -> {PIECE}
+"""),
+    "a Head is given up": (ONE_TABLE, f"""
+{ROW_7}
+open 0 query acct get count -> opened 1
+ask 0 -> sent 0 23
+deliver 0 p -> sent 1 80
+deliver 1 r0 -> head 1
+base -> base 1 pieces 1
+run 0 -> waiting 0 0 | sent 2 16
+deliver 2 p -> ignored
+renew 0 -> sent 3 23
+deliver 1 r0 -> ignored
+deliver 3 p -> sent 4 80
+deliver 4 r0 -> head 1
+run 0 -> waiting piece 0 | sent 5 23
 """),
     "a stop before the last byte": (ONE_TABLE, f"""
 {ROW_7_PENDING}

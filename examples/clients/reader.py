@@ -16,12 +16,13 @@ import struct
 import sys
 import time
 
-FRAME, ASK, HEAD, WANT = 1, 2, 3, 4
+FRAME, ASK, HEAD, WANT, PIECE, PULL = 1, 2, 3, 4, 5, 6
 INSERT, PATCH, DELETE, ADD_COLUMN = 1, 2, 3, 4
 ENTRY_FORMS = {INSERT: ">BBQH", PATCH: ">BBQHH", DELETE: ">BBQ", ADD_COLUMN: ">BBB"}
-WANT_MAX = 16  # frames that answer one Want at most
+WANT_MAX = 16  # frames that answer one Want at most, or pieces that answer one Pull
 SECONDS_OF_A_TRY = 0.1
-TRIES_MAX = 100  # without what was asked for
+TRIES_MAX = 100  # of an Ask without the Head
+FETCH_TRIES_MAX = 16  # of a Want or a Pull without what it names; then the primary may have another base
 
 
 def read_schema(path):
@@ -63,28 +64,42 @@ class Reader:
         self.workers, self.tables = read_schema(schema)
         self.number, self.boot, self.request, self.primary = int(number), int(boot), 0, address(primary)
         self.version, self.head = 0, None
-        self.rows = [{} for _ in self.tables]
+        self.clear()
+        self.base, self.pieces = 0, {}  # entries by a piece's number, of the image at that base
         self.frames = [{} for _ in range(self.workers)]  # by seq: the commit's number and the entries; until they are applied
         self.applied = [0] * self.workers  # how many frames of each worker were applied
         self.socket = socket.socket(socket.AF_INET, socket.SOCK_DGRAM)
         self.socket.bind(address(listen))
         self.typed = b""  # what was typed and does not make a line yet
 
+    def clear(self):
+        """The tables are as the schema file has them, without rows."""
+        self.rows = [{} for _ in self.tables]
+        self.columns = [list(widths) for _, widths in self.tables]
+
     def take(self, data):
-        """Takes one datagram: a Frame that is new, or the Head that is waited for. Everything else is ignored."""
+        """Takes one datagram: a Frame or a Piece that is new, or the Head that is waited for. Everything else is ignored."""
         if struct.unpack_from(">2sBxH", data) != (b"BD", 3, len(data)) or len(data) > 1200:
             return
         if data[3] == FRAME:
             worker, seq, commit, _, count = struct.unpack_from(">BQQBH", data, 6)
             if worker < self.workers and seq >= self.applied[worker] and seq not in self.frames[worker]:
                 self.frames[worker][seq] = commit, read_entries(data[26:], count)
+        elif data[3] == PIECE and self.head is not None:
+            base, number, _, count = struct.unpack_from(">QQBH", data, 6)
+            if base == self.base and number < self.head[2] and number not in self.pieces:
+                self.pieces[number] = read_entries(data[25:], count)
         elif data[3] == HEAD and self.head is None:
-            number, boot, request, version, base, _, _, *counts = struct.unpack(f">BQQQQQB{2 * data[47]}Q", data[6:])
-            counts = counts[1::2]  # each is behind the worker's base count
+            number, boot, request, version, base, pieces, _, *counts = struct.unpack(f">BQQQQQB{2 * data[47]}Q", data[6:])
+            lows, counts = counts[0::2], counts[1::2]
             own = (self.number, self.boot, self.request, self.workers)
-            is_newer = version >= self.version and all(count >= applied for count, applied in zip(counts, self.applied))
-            if (number, boot, request, len(counts)) == own and is_newer and base <= self.version:
-                self.head = version, counts
+            needed = lows if base > self.version else counts
+            is_newer = version >= self.version and all(count >= applied for count, applied in zip(needed, self.applied))
+            if (number, boot, request, len(counts)) == own and is_newer:
+                self.head = version, base, pieces, lows, counts
+                base = base if base > self.version else 0  # an image that is not needed
+                if base != self.base:
+                    self.base, self.pieces = base, {}
 
     def receive(self, seconds):
         """Takes a datagram if one arrives in that time."""
@@ -108,9 +123,9 @@ class Reader:
         self.typed = self.typed.partition(b"\n")[2]
         return True
 
-    def send_until(self, data, done):
+    def send_until(self, data, done, tries=TRIES_MAX):
         """Sends a datagram, and again after each time without an answer, until done."""
-        for _ in range(TRIES_MAX):
+        for _ in range(tries):
             self.socket.sendto(data, self.primary)
             end = time.monotonic() + SECONDS_OF_A_TRY
             while (left := end - time.monotonic()) > 0:
@@ -119,39 +134,66 @@ class Reader:
                     return
         raise TimeoutError
 
-    def update(self):
-        """Brings the tables to the version that is durable when the primary answers."""
+    def fetch(self):
+        """Fetches a Head, and what it names. Returns false if that does not come: the primary may have another base by now."""
         self.request, self.head = self.request + 1, None
         self.send_until(datagram(ASK, "BQQ", self.number, self.boot, self.request), lambda: self.head is not None)
-        version, counts = self.head
-        for worker, (kept, count) in enumerate(zip(self.frames, counts)):
-            for seq in range(self.applied[worker], count):
-                if seq not in kept:
-                    answer = range(seq, min(seq + WANT_MAX, count))
-                    self.send_until(datagram(WANT, "BBQ", self.number, worker, seq), lambda: all(it in kept for it in answer))
+        _, _, pieces, lows, counts = self.head
+
+        def fetch_all(kept, first, count, asking):
+            for number in range(first, count):
+                if number not in kept:
+                    answer = range(number, min(number + WANT_MAX, count))
+                    self.send_until(asking(number), lambda: all(it in kept for it in answer), FETCH_TRIES_MAX)
+
+        try:
+            if self.base:
+                fetch_all(self.pieces, 0, pieces, lambda number: datagram(PULL, "BQQ", self.number, self.base, number))
+            for worker, count in enumerate(counts):
+                first = lows[worker] if self.base else self.applied[worker]
+                fetch_all(self.frames[worker], first, count, lambda seq: datagram(WANT, "BBQ", self.number, worker, seq))
+        except TimeoutError:
+            return False
+        return True
+
+    def update(self):
+        """Brings the tables to the version that is durable when the primary answers."""
+        while not self.fetch():
+            pass
+        version, base, pieces, lows, counts = self.head
+        if self.base:  # the image stands for all commits up to there
+            self.clear()
+            for number in range(pieces):
+                self.change(self.pieces[number])
+            self.version, self.applied = base, lows
+            self.base, self.pieces = 0, {}
         commits = {}
         for worker, count in enumerate(counts):
             for seq in range(self.applied[worker], count):
                 commit, entries = self.frames[worker].pop(seq)
                 commits.setdefault(commit, []).extend(entries)
             self.applied[worker] = count
+            self.frames[worker] = {seq: frame for seq, frame in self.frames[worker].items() if seq >= count}
         if sorted(commits) != list(range(self.version + 1, version + 1)):
             raise ValueError(f"the frames of version {version} are not those of its commits")
         for commit in range(self.version + 1, version + 1):
-            for operation, table, row, offset, data in commits[commit]:
-                if operation == DELETE:
-                    del self.rows[table][row]
-                elif operation == ADD_COLUMN:
-                    self.tables[table][1].append(row)
-                    for was in self.rows[table].values():
-                        was.extend(data)
-                else:  # an insert's data, with the offset 0, is the whole row
-                    self.rows[table].setdefault(row, bytearray())[offset:offset + len(data)] = data
+            self.change(commits[commit])
         self.version = version
+
+    def change(self, entries):
+        for operation, table, row, offset, data in entries:
+            if operation == DELETE:
+                del self.rows[table][row]
+            elif operation == ADD_COLUMN:
+                self.columns[table].append(row)
+                for was in self.rows[table].values():
+                    was.extend(data)
+            else:  # an insert's data, with the offset 0, is the whole row
+                self.rows[table].setdefault(row, bytearray())[offset:offset + len(data)] = data
 
     def text(self):
         lines = [f"version {self.version} rows {sum(map(len, self.rows))}"]
-        for (name, widths), rows in zip(self.tables, self.rows):
+        for (name, _), widths, rows in zip(self.tables, self.columns, self.rows):
             for row, data in sorted(rows.items()):
                 words, at = [name, str(row)], 0
                 for width in widths:

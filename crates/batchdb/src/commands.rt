@@ -12,6 +12,9 @@ use std::time::Duration;
 /// How many turns a node serves, if the words do not say.
 const TURNS: u64 = 1000;
 
+/// How many frames are kept, at least, when a base is taken, if the words do not say.
+const BASE: u64 = 65_536;
+
 /// The most turns, or seconds, that may be asked for.
 const TURNS_MAX: u64 = 4_294_967_295;
 
@@ -26,6 +29,8 @@ pub struct PrimaryWords<'a> {
     pub is_live: bool,
     /// Where clients are served over HTTP.
     pub http: Option<SocketAddr>,
+    /// How many frames are kept, at least, when a base is taken; 0: none is.
+    pub base: u64,
     pub pace: Pace,
 }
 
@@ -156,6 +161,7 @@ const COMMANDS: &[(&str, &[(&str, Form)])] = &[
             ("LISTEN", Form::Word),
             ("REPLICA", Form::Words),
             ("turns", Form::Option),
+            ("base", Form::Option),
             ("live", Form::Flag),
             ("http", Form::Option),
             ("say", Form::Flag),
@@ -253,6 +259,10 @@ fn asked_by<'a>(alloc: Global, matches: &ArgMatches<'a>) -> Result<Asking<'a>, F
 
 fn primary_words<'a>(alloc: Global, words: &ArgMatches<'a>) -> Result<PrimaryWords<'a>, Failure> {
     let is_live = words.get_flag("live");
+    let base = match words.get_str("base") {
+        Some(word) => number(alloc, "--base", word)?,
+        None => BASE,
+    };
     Ok(PrimaryWords {
         schema: given(alloc, words, "SCHEMA")?,
         journal: given(alloc, words, "JOURNAL")?,
@@ -260,6 +270,7 @@ fn primary_words<'a>(alloc: Global, words: &ArgMatches<'a>) -> Result<PrimaryWor
         replicas: addresses(alloc, words)?,
         is_live,
         http: http(alloc, words, is_live)?,
+        base,
         pace: Pace {
             turns: turns(alloc, words, Some(TURNS))?,
             wait: None,

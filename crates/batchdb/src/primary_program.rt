@@ -12,7 +12,7 @@ use crate::journal_reading::{name_of, read_ahead};
 use crate::listening::{Addresses, listening, socket_failure};
 use figures::Figures;
 use journal::{FileFault, FileJournal, JournalFault};
-use nodes::{Host, NodeFault, Pace, Primary, Streams, Work, read_jobs, while_saying};
+use nodes::{Bases, Host, NodeFault, Pace, Primary, Streams, Work, read_jobs, while_saying};
 use primary::{PrimaryCore, StartFault};
 use rows::limits::WORKERS_MAX;
 use script::Setup;
@@ -29,8 +29,9 @@ use std::sync::Wait;
 use std::sync::atomic::AtomicBool;
 use std::thread::Threads;
 
-/// A seat for each worker, one to serve and one to look; and for clients over HTTP one for their jobs and one for rows.
-const SEATS: u8 = WORKERS_MAX + 4;
+/// A seat for each worker, one to serve, one to look and one to take bases; and for clients over HTTP one for their jobs and one
+/// for rows.
+const SEATS: u8 = WORKERS_MAX + 5;
 
 /// Runs a primary: does the jobs of the input, and serves its replicas; live, it does so at once, and
 /// otherwise one after the other. A live one also serves clients over HTTP, if it is to.
@@ -65,6 +66,7 @@ pub fn run_primary<
         listen,
         replicas,
         http,
+        base,
         pace,
         ..
     } = words;
@@ -90,6 +92,7 @@ pub fn run_primary<
         jobs,
         pace,
         figures: &figures,
+        bases: &Bases::new(base),
     };
     at_port(host, journal, core, port, clients, &work, streams)
 }

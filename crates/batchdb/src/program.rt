@@ -48,7 +48,7 @@ batchdb: a replicated engine for transactions and analytics
 Usage:
   batchdb sim [--echo] < SCRIPT   runs a script, and prints the answers to its events;
                                   with --echo each event is printed before its answers, after \"> \"
-  batchdb primary SCHEMA JOURNAL LISTEN [REPLICA]... [--turns N] [--live [--http ADDRESS]] [--say] < JOBS
+  batchdb primary SCHEMA JOURNAL LISTEN [REPLICA]... [--turns N] [--base N] [--live [--http ADDRESS]] [--say] < JOBS
                                   does the jobs, prints a line for each, and then serves N turns
   batchdb replica SCHEMA NUMBER BOOT LISTEN PRIMARY [--turns N] [--wait S] [--live [--http ADDRESS]] [--say] < BATCHES
                                   prints the report of each batch of queries, and ends
@@ -67,6 +67,8 @@ Usage:
   BOOT     a number with which this replica has never been started before, such as \"$(date +%s)\"
   --turns  how many turns to serve: 1000 by default, 0 for no limit. An idle turn takes 10 ms.
            A live primary counts them from the end of its input on, a live replica for each batch
+  --base   how many frames a primary keeps, at least, before it takes a base: 65536 by default, 0 for no
+           base. Frames below a base are dropped, and a replica that lags behind it fetches its rows
   --wait   how many seconds a replica waits for the answer to a batch; turns then have no limit,
            if --turns does not give one
   --live   takes jobs or batches as they come, while the node serves

@@ -9,7 +9,9 @@ use crate::program::VERSION;
 use apply::{ColumnStore, PARTITIONS};
 use dispatcher::ReplicaCore;
 use figures::Figures;
-use gateway::{QueryListening, ReplicaFacts, gathering_of_clients, while_serving};
+use gateway::{
+    QueryListening, QueryServingFault, ReplicaFacts, gathering_of_clients, while_serving,
+};
 use gathering::Gathering;
 use nodes::{Clients, Follower, Host, NodeFault, Streams, read_batches};
 use rows::limits::{REPLICAS_MAX, WORKERS_MAX};
@@ -168,7 +170,8 @@ fn serve_over<
     );
     match served {
         Ok(served) => served,
-        Err(error) => Err(NodeFault::Clients(error)),
+        Err(QueryServingFault::Threads) => Err(NodeFault::Threads),
+        Err(QueryServingFault::System(error)) => Err(NodeFault::Clients(error)),
     }
 }
 

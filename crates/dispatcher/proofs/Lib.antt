@@ -5,6 +5,10 @@ pub mod Versions
 pub mod Ready
 pub mod Widened
 pub mod Standing
+pub mod Gaining
+pub mod Collecting
+pub mod Parting
+pub mod Imaging
 pub mod Coming
 pub mod Applying
 pub mod Running

@@ -9,7 +9,7 @@ use Rattle.dispatcher.specs.declared.outcome.Run.TheVariants as runs
 use Rattle.dispatcher.specs.Feeding.{IsFedFrom, RunKeepsFed, RunIsConsistent, AnswerIsReport, ReadyIsAnswered}
 use Rattle.dispatcher.specs.State.{Replica, Batch, Fetched}
 use Rattle.dispatcher.specs.Report.{report_of}
-use Rattle.dispatcher.specs.Protocol.{Readiness, Broken, NoBatch, WaitsForHead, WaitsForFrame, Ready}
+use Rattle.dispatcher.specs.Protocol.{Readiness, Broken, NoBatch, WaitsForHead, WaitsForPiece, WaitsForFrame, Ready, Nothing}
 use Rattle.dispatcher.specs.Steps.{at_fetched, Ends, readiness_of, RunsAs, RunsOutOfMemory}
 use Rattle.dispatcher.proofs.CatchingUp.{Merges, can-catch-up, caught-is}
 use Rattle.dispatcher.proofs.Feeding.{Arriving, broken-fed, caught-fed, finished-fed}
@@ -66,6 +66,7 @@ module _ (merges : Merges) (shape : Shape) (commits : List Commit) (r : Replica)
       by Broken is ran = idle runs.Broken (λ e. cc) (λ text e. cc) ran
       by NoBatch is ran = idle runs.NoBatch (λ e. cc) (λ text e. cc) ran
       by WaitsForHead is ran = idle runs.WaitingHead (λ e. cc) (λ text e. cc) ran
+      by (WaitsForPiece base number) is ran = idle (runs.WaitingPiece number _) (λ e. cc) (λ text e. cc) ran
       by (WaitsForFrame worker seq) is ran = idle (runs.Waiting worker seq _) (λ e. cc) (λ text e. cc) ran
       by (Ready plans fetched) is ran =
           let batch : Batch = record { plans = plans; fetched = Some fetched } in
@@ -93,7 +94,7 @@ cut-fed laws merges shape commits r answer new fed wants =
         | inr reached ↦ subst (IsFedFrom shape commits) (sym (caught-is merges shape commits r parts.0 fetched fed parts.1 new reached))
             (caught-fed laws merges shape commits r parts.0 fetched fed parts.1)
       ]
-      | inr broken ↦ subst (IsFedFrom shape commits) (sym broken.1) (broken-fed shape commits r fed)
+      | inr broken ↦ subst (IsFedFrom shape commits) (sym broken.1) (broken-fed laws shape commits r fed)
     ]
 
 pub run-feeds : Arriving → Merges → RunKeepsFed
@@ -144,7 +145,7 @@ answer-reports merges shape commits r text new fed (inr wants) = elim wants.2 [
 runs-ends : (r : Replica) (batch : Batch) (fetched : Fetched) (answer : Run) (new : Replica) → CanAnswer r batch fetched
     → RunsAs (readiness_of r) r answer new → Ends r batch.plans fetched answer new
 runs-ends r batch fetched answer new can ran =
-    subst (λ (found : Readiness). RunsAs found r answer new) (finds r batch fetched None can.whole can.there can.has can.complete) ran
+    subst (λ (found : Readiness). RunsAs found r answer new) (finds r batch fetched Nothing can.whole can.there can.has can.complete) ran
 
 pub ready-answers : Merges → ReadyIsAnswered
 ready-answers merges shape commits r batch fetched answer new fed there e ran =

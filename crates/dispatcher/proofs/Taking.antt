@@ -1,7 +1,8 @@
 -- What becomes of a frame of the list that a replica is fed from: its worker is there and each of its entries fits.
-use Rattle.std.proofs.Common.{◌≡◌, ℕ, zero, suc, ◌+◌, ◌<◌, Bool, true, false, cond, ◌==◌, List, [], ◌∷◌, ◌++◌, length, take, nat_lt}
+use Rattle.std.proofs.Common.{◌≡◌, ℕ, zero, suc, ◌+◌, ◌<◌, Bool, true, false, cond, not, ◌||◌, ◌==◌, List, [], ◌∷◌, ◌++◌, length, take}
+use Rattle.std.proofs.Common.{nat_lt}
 use Rattle.std.proofs.Common.{Some}
-use Rattle.std.proofs.Common.{Result, refl, sym, ap, subst, ◌∙◌}
+use Rattle.std.proofs.Common.{Result, Ok, refl, sym, ap, subst, ◌∙◌}
 use Rattle.std.specs.List.{slice_get, list_all, AllByRecursion}
 use Rattle.std.proofs.lemmas.Bool.{cond-false, cond_both, and_parts, and_from, lt-ltb}
 use Rattle.std.proofs.lemmas.List.{length-map}
@@ -14,6 +15,7 @@ use Rattle.rows.specs.Entries.{table_of}
 use Rattle.rows.specs.Tables.{Table, Tables, shape_in}
 use Rattle.rows.specs.Commits.{IsCommit}
 use Rattle.rows.specs.Laws.{VersionsTellKinds, TablesStay}
+use Rattle.rows.specs.ImageLaws.{ImagesReplace}
 use Rattle.rows.specs.ListLaws.{EachHasTable}
 use Rattle.update_log.specs.declared.frame.Frame.{Frame}
 use Rattle.update_log.specs.Frames.{frames_from, frames_of}
@@ -21,13 +23,19 @@ use Rattle.update_log.specs.Parts.{has_room, parts_from, parts_of}
 use Rattle.update_log.specs.Streams.{stream_from, stream_of}
 use Rattle.wire.specs.declared.datagram.Datagram.{Datagram}
 use Rattle.wire.specs.declared.faults.WireFault.{WireFault}
+use Rattle.wire.specs.declared.datagram.Datagram.TheVariants as datagrams
 use Rattle.wire.specs.Reading.{reading}
+use Rattle.wire.specs.Spelling.{datagram_of_frame}
+use Rattle.intake.specs.State.{Arrivals}
 use Rattle.dispatcher.specs.declared.outcome.Got.{Got}
 use Rattle.dispatcher.specs.declared.outcome.Got.TheVariants as got
-use Rattle.dispatcher.specs.Feeding.{Tells, TrueFrameIsTaken}
+use Rattle.dispatcher.specs.Feeding.{IsFedFrom, Tells, TrueFrameIsTaken, TruePieceIsTaken}
+use Rattle.dispatcher.specs.Images.{piece_frame, frames_of_base}
+use Rattle.dispatcher.specs.Protocol.{bases_for, fetched_for, wants_piece}
 use Rattle.dispatcher.specs.State.{Replica}
-use Rattle.dispatcher.specs.Steps.{datagram_comes}
-use Rattle.dispatcher.proofs.Coming.{comes}
+use Rattle.dispatcher.specs.Steps.{received, have_tables, datagram_comes}
+use Rattle.dispatcher.proofs.Coming.{comes, unfit-is}
+use Rattle.dispatcher.proofs.Imaging.{PieceFits, base-fits}
 use Rattle.dispatcher.proofs.Widened.{still-many}
 
 -- what the laws say of the tables of entries, and of the kinds of tables' columns
@@ -35,6 +43,7 @@ pub record Kinds : Type 0 where
   pub have_table : EachHasTable
   pub versions : VersionsTellKinds
   pub stay : TablesStay
+  pub replace : ImagesReplace
 
 -- ---- the tables of the entries of a legal list are there
 
@@ -127,19 +136,49 @@ of-found P (first ∷ stream) (suc seq) frame each h = of-found P stream seq fra
 
 -- ---- so it is taken
 
-pub frame-taken : Kinds → TrueFrameIsTaken
-frame-taken laws shape commits r bytes frame fed whole reads tells =
-    let many : length r.tables ≡ length shape =
+-- a replica that is fed has as many tables as those with which they began
+many-tables : Kinds → (shape : Shape) (commits : List Commit) (r : Replica) → IsFedFrom shape commits r → r.broken ≡ false
+    → length r.tables ≡ length shape
+many-tables laws shape commits r fed whole =
     sym (length-map r.tables (λ (table : Table). table.kinds))
     ∙ ap (λ (tables : Tables). length (shape_in tables)) (fed.tables_are whole)
     ∙ ap (λ (shape : Shape). length shape) (laws.versions shape commits r.version fed.legal.defined)
-    ∙ still-many laws.stay shape (take r.version commits) in
+    ∙ still-many laws.stay shape (take r.version commits)
+
+comes-read : (r : Replica) (bytes : List ℕ) (datagram : Result Datagram WireFault) → r.broken ≡ false → reading bytes ≡ datagram
+    → received r bytes ≡ datagram_comes r datagram
+comes-read r bytes datagram whole reads =
+    cond-false {A = Got × Replica} r.broken (got.Broken, r) (datagram_comes r (reading bytes)) whole
+    ∙ ap (λ (datagram : Result Datagram WireFault). datagram_comes r datagram) reads
+
+pub frame-taken : Kinds → TrueFrameIsTaken
+frame-taken laws shape commits r bytes frame fed whole reads tells =
     let found : slice_get (stream_of commits frame.worker) frame.seq ≡ Some frame =
-    subst (λ (datagram : Result Datagram WireFault). Tells r.workers commits datagram) reads tells in
+    subst (λ (datagram : Result Datagram WireFault). Tells shape r.workers commits datagram) reads tells in
     let each = commits-fit r.workers (length shape) commits fed.legal.each (laws.have_table shape commits fed.legal.defined) in
     let fit =
     of-found (FrameFits (length shape) r.workers) (stream_of commits frame.worker) frame.seq frame
     (stream-fits (length shape) r.workers frame.worker 0 0 commits each) found in
-    cond-false {A = Got × Replica} r.broken (got.Broken, r) (datagram_comes r (reading bytes)) whole
-    ∙ ap (λ (datagram : Result Datagram WireFault). datagram_comes r datagram) reads
-    ∙ comes r frame (length shape) many (lt-ltb frame.worker r.workers fit.0) fit.1
+    comes-read r bytes (Ok (datagram_of_frame frame)) whole reads
+    ∙ comes r (λ (all : List Arrivals). record r { arrivals = all }) r.arrivals (bases_for r.version (fetched_for r.batch)) frame
+    (not (nat_lt frame.worker r.workers) || not (have_tables r frame.entries)) refl
+    (unfit-is r frame.entries (length shape) (nat_lt frame.worker r.workers) true true (many-tables laws shape commits r fed whole)
+    (lt-ltb frame.worker r.workers fit.0) fit.1)
+
+-- the tables of the entries of a piece of an image are there
+piece-fits : (tables : ℕ) (piece : Frame) → PieceFits tables piece → AllFit tables piece.entries
+piece-fits tables piece each = entries-fit tables piece.entries each
+
+pub piece-taken : Kinds → TruePieceIsTaken
+piece-taken laws shape commits r bytes base number last entries fed whole reads tells wanted =
+    let piece : Frame = piece_frame base number last entries in
+    let found =
+    subst (λ (datagram : Result Datagram WireFault). Tells shape r.workers commits datagram) reads tells in
+    let fit =
+    of-found (PieceFits (length shape)) (frames_of_base shape commits base) number piece
+    (base-fits laws.replace laws.have_table shape commits base fed.spelled fed.legal.defined) found.1 in
+    comes-read r bytes (Ok (datagrams.Piece base number last entries)) whole reads
+    ∙ comes r (λ (all : List Arrivals). record r { pieces = record r.pieces { arrivals = all } }) r.pieces.arrivals [] piece
+    (not (wants_piece r.version (fetched_for r.batch) base number) || not (have_tables r entries)) refl
+    (unfit-is r entries (length shape) (wants_piece r.version (fetched_for r.batch) base number) true true
+    (many-tables laws shape commits r fed whole) wanted (piece-fits (length shape) piece fit))

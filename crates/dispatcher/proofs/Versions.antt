@@ -11,7 +11,7 @@ use Rattle.rows.specs.Tables.{Tables, Refusal, opening, apply_entries, and_then}
 use Rattle.rows.specs.Commits.{apply_commits, tables_after}
 use Rattle.ordering.specs.Cutting.{commits_between}
 
-apply_commits-append : (tables : Tables) (before commits : List Commit)
+pub apply_commits-append : (tables : Tables) (before commits : List Commit)
     → apply_commits tables (before ++ commits) ≡ and_then (λ after. apply_commits after commits) (apply_commits tables before)
 apply_commits-append tables [] commits = refl
 apply_commits-append tables (commit ∷ before) commits =

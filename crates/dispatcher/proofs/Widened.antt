@@ -1,8 +1,10 @@
 -- Queries that fit still fit when columns were added, and there are as many tables.
 use Rattle.std.proofs.Common.{◌≡◌, ℕ, suc, zero, Bool, true, false, cond, List, [], ◌∷◌, ◌++◌, length, slice_get, slice_set, Option, None}
 use Rattle.std.proofs.Common.{Some, Ok}
-use Rattle.std.proofs.Common.{refl, sym, ap, ◌∙◌}
+use Rattle.std.proofs.Common.{◌+◌, ◌<◌, ◌≤◌, drop, get_or, refl, sym, ap, subst, ◌∙◌}
+use Rattle.std.proofs.lemmas.List.{drop_all, drop_more}
 use Rattle.std.specs.Option.{unwrap_or}
+use Rattle.std.specs.List.{AllByRecursion}
 use Rattle.std.specs.Result.{is_ok}
 use Rattle.rows.specs.declared.commit.Commit.{Commit}
 use Rattle.rows.specs.declared.entry.Entry.{Entry}
@@ -16,8 +18,10 @@ use Rattle.rows.specs.Laws.{TablesStay}
 use Rattle.queries.specs.declared.plan.Plan.{Plan}
 use Rattle.queries.specs.Checking.{checked}
 use Rattle.queries.specs.Laws.{PlanStillFits}
-use Rattle.dispatcher.specs.declared.batch.Batch.{Batch as HeldBatch}
-use Rattle.dispatcher.specs.Inner.Invariant.{AreChecked, BatchIsChecked}
+
+-- each of these plans fits
+abbrev pub AreChecked : Shape → List Plan → Type 0
+AreChecked shape plans = AllByRecursion (λ plan. checked shape plan ≡ Ok tt) plans
 
 -- a shape parted at a table
 record IsParted (shape : Shape) (table : ℕ) (kinds : List Kind) : Type 0 where
@@ -78,13 +82,49 @@ pub still-checked : PlanStillFits → (shape : Shape) (commits : List Commit) (p
 still-checked law shape commits [] h = tt
 still-checked law shape commits (plan ∷ plans) h = (checked-commits law plan shape commits h.0, still-checked law shape commits plans h.1)
 
-pub batch-still-checked : PlanStillFits → (shape : Shape) (commits : List Commit) (batch : Option HeldBatch) → BatchIsChecked shape batch
-    → BatchIsChecked (shape_after_commits shape commits) batch
-batch-still-checked law shape commits None h = tt
-batch-still-checked law shape commits (Some batch) h = still-checked law shape commits batch.plans.items h
-
 -- how many tables there are
 pub still-many : TablesStay → (shape : Shape) (commits : List Commit) → length (shape_after_commits shape commits) ≡ length shape
 still-many law shape [] = refl
 still-many law shape (commit ∷ commits) =
     still-many law (shape_after shape commit.entries) commits ∙ law shape commit.entries
+
+-- what commits and others behind them make of the columns
+pub shape-behind : (shape : Shape) (commits more : List Commit)
+    → shape_after_commits shape (commits ++ more) ≡ shape_after_commits (shape_after_commits shape commits) more
+shape-behind shape [] more = refl
+shape-behind shape (commit ∷ commits) more = shape-behind (shape_after shape commit.entries) commits more
+
+-- ---- one after the other
+
+-- all fit exactly if those from an index on do
+abbrev pub AreFitFrom : Shape → List Plan → ℕ → Type 0
+AreFitFrom shape plans index =
+    (AreChecked shape (drop index plans) → AreChecked shape plans) × (AreChecked shape plans → AreChecked shape (drop index plans))
+
+pub fit-begins : (shape : Shape) (plans : List Plan) → AreFitFrom shape plans 0
+fit-begins shape plans = (λ rest. rest, λ whole. whole)
+
+-- the plan at an index is the first of those from there on
+pub here-is : (plans : List Plan) (index : ℕ) (plan : Plan) → index < length plans → plan ≡ get_or plans index plan
+    → drop index plans ≡ plan ∷ drop (index + 1) plans
+here-is plans index plan within is =
+    drop_more plans index plan within ∙ ap (λ (plan : Plan). plan ∷ drop (index + 1) plans) (sym is)
+
+-- one more that fits
+pub fit-next : (shape : Shape) (plans : List Plan) (index : ℕ) (plan : Plan) → drop index plans ≡ plan ∷ drop (index + 1) plans
+    → checked shape plan ≡ Ok tt → AreFitFrom shape plans index → AreFitFrom shape plans (index + 1)
+fit-next shape plans index plan here own so = (
+  λ rest. so.0 (subst (λ (plans : List Plan). AreChecked shape plans) (sym here) (own, rest)),
+  λ whole. (subst (λ (plans : List Plan). AreChecked shape plans) here (so.1 whole)).1,
+)
+
+-- or one that does not
+pub not-fit : (shape : Shape) (plans : List Plan) (index : ℕ) (plan : Plan) → drop index plans ≡ plan ∷ drop (index + 1) plans
+    → (checked shape plan ≡ Ok tt → ⊥) → AreFitFrom shape plans index → AreChecked shape plans → ⊥
+not-fit shape plans index plan here apart so whole =
+    apart (subst (λ (plans : List Plan). AreChecked shape plans) here (so.1 whole)).0
+
+pub fit-ends : (shape : Shape) (plans : List Plan) (index : ℕ) → AreFitFrom shape plans index → length plans ≤ index
+    → AreChecked shape plans
+fit-ends shape plans index so past =
+    so.0 (subst (λ (plans : List Plan). AreChecked shape plans) (sym (drop_all index plans past)) tt)

@@ -1,6 +1,7 @@
 pub mod Report
 pub mod TableText
 pub mod State
+pub mod Images
 pub mod Protocol
 pub mod Steps
 pub mod Gaps

@@ -1,12 +1,18 @@
 -- The state of a replica, as its callers see it.
 use Rattle.std.specs.Prelude.{ℕ, List, Option, Bool}
+use Rattle.rows.specs.Shape.{Shape}
 use Rattle.rows.specs.Tables.{Tables}
 use Rattle.intake.specs.State.{Arrivals}
+use Rattle.intake.specs.Steps.{no_arrivals as none_came}
 use Rattle.queries.specs.declared.plan.Plan.{Plan}
 
--- the version that was fetched for a batch, and each worker's frame count at it
+-- the version that was fetched for a batch and the primary's base, with each worker's frame count at both, and how many pieces the
+-- image at the base has
 pub record Fetched : Type 0 where
   pub version : ℕ
+  pub base : ℕ
+  pub pieces : ℕ
+  pub lows : List ℕ
   pub counts : List ℕ
 
 -- the queries that are answered together, and what was fetched for them
@@ -14,11 +20,21 @@ pub record Batch : Type 0 where
   pub plans : List Plan
   pub fetched : Option Fetched
 
--- a replica: the frames that it received of each worker, how many are applied, its tables at one version, the queries that wait,
--- and its batch
+-- the pieces that came of the image at a base: the frames of one worker, whose seqs are the numbers of the pieces
+pub record Pieces : Type 0 where
+  pub base : ℕ
+  pub arrivals : List Arrivals
+
+-- no piece has come of the image at this base
+abbrev pub no_pieces : ℕ → Pieces
+no_pieces base = record { base = base; arrivals = none_came 1 }
+
+-- a replica: the frames that it received of each worker, how many are applied, the pieces that it received of an image, its tables
+-- at one version, the queries that wait, and its batch
 pub record Replica : Type 0 where
-  -- the tables' names, in the schema's order
+  -- the tables' names, in the schema's order, and the kinds of columns with which its tables began
   pub names : List (List ℕ)
+  pub shape : Shape
   pub workers : ℕ
   pub number : ℕ
   pub boot : ℕ
@@ -28,7 +44,9 @@ pub record Replica : Type 0 where
   pub arrivals : List Arrivals
   -- how many frames of each worker are applied
   pub applied : List ℕ
-  -- the tables of a broken replica are not specified: they are seen as none
+  -- the pieces of the newest image that it goes by; the pieces and the tables of a broken replica are not specified: they are
+  -- seen as none
+  pub pieces : Pieces
   pub tables : Tables
   pub version : ℕ
   -- the queries that wait for the next batch

@@ -1,9 +1,7 @@
 //! Frame counts, by worker.
 
-ghost use Rattle.std.specs.Prelude.{◌≡◌, []};
-ghost use Rattle.intake.specs.Steps.{lacking};
+ghost use Rattle.std.specs.Prelude.{◌≡◌};
 
-use intake::Intake;
 use wire::Counts;
 
 /// A copy of the counts. Takes no memory.
@@ -15,12 +13,4 @@ pub fn copy_of(counts: &Counts) -> Counts
         copy.push(*count);
     }
     copy
-}
-
-/// The first frame that is missing below the counts: of the least worker that lacks one, with its
-/// seq. Takes no memory.
-pub fn missing_below(intake: &Intake, counts: &Counts) -> Option<(u8, u64)>
-    ensures { result ≡ lacking intake.now [] counts.now }
-{
-    intake.first_missing(counts.as_slice())
 }

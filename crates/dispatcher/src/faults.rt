@@ -17,7 +17,8 @@ pub enum OpenFault {
     Memory,
 }
 
-/// Why no version is asked for: the first that applies, in the order `Broken`, `Busy`, `Empty`.
+/// Why no version is asked for: the first that applies, in the order `Broken`, `Busy`, `Empty` where a
+/// version is asked for, and `Broken`, `Empty`, `NoHead` where one is given up for another.
 #[derive(Clone, Copy, Debug, PartialEq, Eq, Error)]
 pub enum AskFault {
     /// The batch has its version already.
@@ -29,6 +30,9 @@ pub enum AskFault {
     /// The replica is broken; it has to be restarted.
     #[error("the replica is broken")]
     Broken,
+    /// The batch has no version that could be given up.
+    #[error("the batch has no version")]
+    NoHead,
 }
 
 /// Why a dump fails: the first that applies, in the order `Broken`, `Memory`.

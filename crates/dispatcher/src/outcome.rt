@@ -8,11 +8,12 @@ use wire::Out;
 /// What was done with bytes that arrived.
 #[derive(Clone, Copy, PartialEq, Eq)]
 pub enum Got {
-    /// A frame that was not known; it is now.
+    /// A frame or a piece that was not known; it is now.
     Stored,
-    /// A frame that was known.
+    /// One that was known.
     Repeat,
-    /// A frame too far ahead of its worker's first missing one; it was not kept.
+    /// One too far ahead of its worker's first missing frame, or of the first missing piece; it was not
+    /// kept.
     Ahead,
     /// The Head that the batch waits for, with its version.
     Head(u64),
@@ -31,11 +32,13 @@ pub enum Run {
     NoBatch,
     /// The batch has no version yet.
     WaitingHead,
+    /// The piece of that number is missing of the image that it goes by; `pull` asks for it.
+    WaitingPiece { number: u64, pull: Out },
     /// The worker's frame of that seq is missing; `want` asks for it.
     Waiting { worker: u8, seq: u64, want: Out },
     /// The report; the batch has ended.
     Answered(ByteList),
-    /// The frames are not those of one list of commits; the replica is now broken.
+    /// What came is not of one list of commits; the replica is now broken.
     Inconsistent,
     /// The replica is broken.
     Broken,

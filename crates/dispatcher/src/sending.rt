@@ -1,7 +1,7 @@
 //! What a replica sends to the primary.
 
 ghost use Rattle.std.specs.Prelude.{◌≡◌, ◌<◌};
-ghost use Rattle.dispatcher.specs.Protocol.{ask_for, want_for};
+ghost use Rattle.dispatcher.specs.Protocol.{ask_for, pull_for, want_for};
 ghost use Rattle.rows.specs.Limits.{replicas_max, workers_max};
 
 use wire::{Datagram, Out, Packet, To};
@@ -32,6 +32,21 @@ pub fn want_out(replica: u8, worker: u8, from: u64) -> Out
         packet: Packet::of(&Datagram::Want {
             replica,
             worker,
+            from,
+        }),
+    }
+}
+
+/// The Pull of the pieces of the image at a base from a number on, addressed to the primary.
+pub fn pull_out(replica: u8, base: u64, from: u64) -> Out
+    requires { replica < replicas_max }
+    ensures { result ≡ pull_for replica base from }
+{
+    Out {
+        to: To::Primary,
+        packet: Packet::of(&Datagram::Pull {
+            replica,
+            base,
             from,
         }),
     }

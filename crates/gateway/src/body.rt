@@ -37,7 +37,7 @@ pub(crate) fn jobs_of(alloc: Global, setup: &Setup, body: &[u8]) -> Result<Vec<J
                     return Err(BodyFault::Memory);
                 }
             }
-            Ok(Requested::Request(Request::Get { line, .. })) => {
+            Ok(Requested::Request(Request::Get { line, .. } | Request::Base { line })) => {
                 let why = LineFault::NoJobLine;
                 return Err(unread(format!(in alloc; "line {line}: {why}\n").ok()));
             }

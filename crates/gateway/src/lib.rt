@@ -47,7 +47,7 @@ mod worker_count;
 
 pub use job_desk::JobDesk;
 pub use node_facts::NodeFacts;
-pub use query_serving::{QueryListening, gathering_of_clients, while_serving};
+pub use query_serving::{QueryListening, QueryServingFault, gathering_of_clients, while_serving};
 pub use replica_facts::ReplicaFacts;
 pub use serving::{Listening, ServingFault, serve_jobs};
 pub use worker_count::WorkerCount;

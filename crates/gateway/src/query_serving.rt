@@ -42,6 +42,16 @@ pub fn gathering_of_clients(alloc: Global) -> Result<Gathering, AllocError> {
     Gathering::new(alloc, CONNECTIONS_MAX)
 }
 
+/// Why no client of a replica is served.
+#[derive(Debug, thiserror::Error, Drop)]
+pub enum QueryServingFault {
+    #[error("the system makes too few threads")]
+    Threads,
+    /// It has no random numbers.
+    #[error("{0}")]
+    System(io::Error),
+}
+
 /// What the threads that serve clients share.
 #[derive(Drop)]
 struct Desk<'a> {
@@ -58,7 +68,7 @@ struct Desk<'a> {
 /// gathering, which has a place for each. The work is done in the thread that calls; once it has ended, and what waits to be
 /// sent is sent, so has this call. Where the listener fails, the gathering is told.
 ///
-/// Fails as the system does, without any work, if it makes too few threads or has no random numbers.
+/// Fails without any work, if the system makes too few threads or has no random numbers.
 pub fn while_serving<T: Threads + Wait + Clock + RandomSource + Sync, A, F: FnOnce() -> A>(
     rt: &T,
     alloc: Global,
@@ -66,12 +76,16 @@ pub fn while_serving<T: Threads + Wait + Clock + RandomSource + Sync, A, F: FnOn
     facts: &ReplicaFacts<'_>,
     gathering: &Gathering,
     work: F,
-) -> io::Result<A>
+) -> Result<A, QueryServingFault>
     requires { F.pre work }
 {
+    let keys = match RandomState::new(rt) {
+        Ok(keys) => keys,
+        Err(error) => return Err(QueryServingFault::System(error)),
+    };
     let desk = Desk {
         hall: Hall::new(alloc),
-        keys: RandomState::new(rt)?,
+        keys,
         facts,
         gathering,
         ready: AtomicU64::new(0),
@@ -82,32 +96,29 @@ pub fn while_serving<T: Threads + Wait + Clock + RandomSource + Sync, A, F: FnOn
     scope(
         scope_env(),
         rt,
-        move |scope| -> io::Result<A>
+        move |scope| -> Result<A, QueryServingFault>
             requires { F.pre work }
         {
             let QueryListening { door } = listening;
-            let mut made = Ok(());
+            let mut are_made = true;
             for place in 0..CONNECTIONS_MAX {
                 let thread = Builder::new().spawn_scoped(
                     scope,
                     move || serve_at(rt, alloc, desk, place),
                 );
-                if let Err(error) = thread {
-                    made = Err(error);
+                if thread.is_err() {
+                    are_made = false;
                     break;
                 }
             }
-            if made.is_ok()
-                && let Err(error) = Builder::new().spawn_scoped(
-                    scope,
-                    move || hold(rt, desk, door),
-                )
-            {
-                made = Err(error);
-            }
-            let done = match made {
-                Ok(()) => Ok(work()),
-                Err(error) => Err(error),
+            are_made = are_made
+                && Builder::new()
+                    .spawn_scoped(scope, move || hold(rt, desk, door))
+                    .is_ok();
+            let done = if are_made {
+                Ok(work())
+            } else {
+                Err(QueryServingFault::Threads)
             };
             desk.is_over.store(true, Ordering::SeqCst);
             desk.hall.end(rt);

@@ -55,7 +55,7 @@ known-cases (key ∷ known) seq other h = by (known-cases known seq other) (nat_
       ]
     ]
 
-is_at-is : (seq key : ℕ) → is_at (nat_cmp seq) key ≡ true → seq ≡ key
+pub is_at-is : (seq key : ℕ) → is_at (nat_cmp seq) key ≡ true → seq ≡ key
 is_at-is seq key h = grind (arith, nat_tests)
 
 is_at-below : (seq key : ℕ) → seq < key → is_at (nat_cmp seq) key ≡ false
@@ -172,8 +172,8 @@ without-from stream arrivals count from = record {
 
 -- ---- of all workers
 
-pub nothing-from : (commits : List Commit) (workers : ℕ) → AreFrom commits (no_arrivals workers)
-nothing-from commits workers worker = subst (IsFrom (stream_of commits worker)) (sym (none workers worker)) (record {
+pub nothing-of : (frames : List Frame) (workers worker : ℕ) → IsFrom frames (arrivals_of (no_arrivals workers) worker)
+nothing-of frames workers worker = subst (IsFrom frames) (sym (none workers worker)) (record {
   known_are = λ seq h. absurd (false≢true h);
   kept_are = λ seq frame h. absurd (none-some frame h);
 })
@@ -182,6 +182,9 @@ nothing-from commits workers worker = subst (IsFrom (stream_of commits worker)) 
     none zero worker = refl
     none (suc workers) zero = refl
     none (suc workers) (suc worker) = none workers worker
+
+pub nothing-from : (commits : List Commit) (workers : ℕ) → AreFrom commits (no_arrivals workers)
+nothing-from commits workers worker = nothing-of (stream_of commits worker) workers worker
 
 -- a stream goes on as its list does
 stream-more : (worker before first : ℕ) (commits more : List Commit)
@@ -246,6 +249,30 @@ frames-from commits all bases frame is from =
         placed-from commits all frame.worker (with_frame (arrivals_of all frame.worker) frame) from
         (with_frame-from (stream_of commits frame.worker) (arrivals_of all frame.worker) frame is (from frame.worker))
 
+-- the same of one worker, whose frames are any list
+pub frames-of : (frames : List Frame) (all : List Arrivals) (bases : List ℕ) (frame : Frame) → slice_get frames frame.seq ≡ Some frame
+    → IsFrom frames (arrivals_of all frame.worker) → IsFrom frames (arrivals_of (taken all bases frame).1 frame.worker)
+frames-of frames all bases frame is from =
+    by (is_known one.known frame.seq) (is_ahead one.known (slice_index bases frame.worker) frame.seq)
+  where
+    one : Arrivals
+    one = arrivals_of all frame.worker
+
+    stored : IsFrom frames (arrivals_of (set all frame.worker (with_frame one frame)) frame.worker)
+    stored = elim (cases_lt frame.worker (length all)) [
+      | inl within ↦ subst (IsFrom frames) (sym (get_or-set_same all frame.worker (with_frame one frame) nothing within))
+          (with_frame-from frames one frame is from)
+      | inr past ↦ subst (λ (l : List Arrivals). IsFrom frames (get_or l frame.worker nothing))
+          (sym (set_past all frame.worker (with_frame one frame) past)) from
+    ]
+
+    by : (repeat ahead : Bool) → IsFrom frames (arrivals_of
+        (cond {A = Taken × List Arrivals} repeat (Repeat, all)
+        (cond ahead (Ahead, all) (Stored, set all frame.worker (with_frame one frame)))).1 frame.worker)
+    by true ahead = from
+    by false true = from
+    by false false = stored
+
 -- a worker's arrivals are as they were, or without those below a count
 dropped-at : (all : List Arrivals) (counts : List ℕ) (worker : ℕ)
     → (arrivals_of (dropped all counts) worker ≡ arrivals_of all worker)
@@ -309,8 +336,11 @@ kept-from stream kept low (suc count) are there =
     ap (λ (found : Option Frame). option_to_list found ++ frames_at kept (low + 1) count) first.1
     ∙ ap (λ (frames : List Frame). frame ∷ frames) rest ∙ sym (ap (take (suc count)) here)
 
+pub kept-of : (frames : List Frame) (all : List Arrivals) (worker low high : ℕ) → IsFrom frames (arrivals_of all worker)
+    → AreKept all worker low high → frames_between all worker low high ≡ take (high - low) (drop low frames)
+kept-of frames all worker low high from there =
+    kept-from frames (arrivals_of all worker).kept low (high - low) from.kept_are (λ seq after below. there seq after (omega arith))
+
 pub kept-of_stream : (commits : List Commit) (all : List Arrivals) (worker low high : ℕ) → AreFrom commits all → AreKept all worker low high
     → frames_between all worker low high ≡ take (high - low) (drop low (stream_of commits worker))
-kept-of_stream commits all worker low high from there =
-    kept-from (stream_of commits worker) (arrivals_of all worker).kept low (high - low) (from worker).kept_are
-    (λ seq after below. there seq after (omega arith))
+kept-of_stream commits all worker low high from there = kept-of (stream_of commits worker) all worker low high (from worker) there

@@ -1,5 +1,5 @@
 -- Frames that are kept: one more of them, one taken back, and those below a seq forgotten.
-use Rattle.std.proofs.Common.{◌≡◌, ℕ, ◌<◌, ◌≤◌, true, false, ◌==◌, List, [], ◌∷◌, length, Option, Some, None}
+use Rattle.std.proofs.Common.{◌≡◌, ℕ, ◌<◌, ◌≤◌, Bool, true, false, cond, ◌==◌, List, [], ◌∷◌, length, Option, Some, None}
 use Rattle.std.proofs.Common.{refl, sym, ap, subst, ◌∙◌, inl, inr, arith}
 use Rattle.std.specs.Prelude.{nat_le, ◌↔◌, IsSome, IfSome}
 use Rattle.std.specs.List.{AllByRecursion, All, filter}
@@ -146,3 +146,13 @@ none_below-first count kept first past least =
     later : (kept : List (ℕ × Frame)) → AllByRecursion (λ key. is_gt (nat_cmp first key) ≡ false) (keys_of kept) → NoneBelow count kept
     later [] h = tt
     later (entry ∷ kept) h = (let up = le_from_not_gt first entry.0 h.0 in omega (arith, up, past), later kept h.1)
+
+-- and so it is where a frame is taken out
+pub are_known-without : (known : List ℕ) (test : ℕ → Bool) (kept : List (ℕ × Frame)) → AreKnown known kept
+    → AreKnown known (remove_entry test kept)
+are_known-without known test [] are = tt
+are_known-without known test (entry ∷ kept) are = by (are_known-without known test kept are.1) (test entry.0)
+  where
+    by : AreKnown known (remove_entry test kept) → (here : Bool) → AreKnown known (cond here kept (entry ∷ remove_entry test kept))
+    by rest true = are.1
+    by rest false = (are.0, rest)

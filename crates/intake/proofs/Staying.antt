@@ -1,11 +1,12 @@
 -- What stays known and kept as frames come and are dropped, and what is known where none is lacking.
 use Rattle.std.proofs.Common.{◌≡◌, ℕ, zero, suc, ◌+◌, ◌<◌, ◌≤◌, Bool, true, false, cond, List, [], ◌∷◌, length, set, get_or}
-use Rattle.std.proofs.Common.{Option, Some, None, refl, sym, ap, subst, inl, inr, arith}
+use Rattle.std.proofs.Common.{Option, Some, None, refl, sym, ap, subst, ◌∙◌, inl, inr, arith}
 use Rattle.std.specs.Prelude.{nat_le, nat_lt, ◌||◌, IsSome, slice_index}
 use Rattle.std.specs.Ordering.{nat_cmp, match_ordering}
 use Rattle.std.specs.declared.cmp.Ordering.{Ordering}
 use Rattle.std.specs.declared.cmp.Ordering.TheVariants.{Less, Equal, Greater}
 use Rattle.std.specs.BTreeMap.{insert_entry, is_at}
+use Rattle.std.specs.Map.{remove_entry}
 use Rattle.std.proofs.lemmas.Bool.{cases_eq, cases_lt, cases_Bool, false≢true, cond-false, leb-false, ltb-false, le-ltb}
 use Rattle.std.proofs.lemmas.Bool.Decides.{nat_tests}
 use Rattle.std.proofs.lemmas.List.{get_or-set_same, get_or-set_other, set_past, length-set}
@@ -15,10 +16,11 @@ use Rattle.intake.specs.declared.taken.Taken.{Taken}
 use Rattle.intake.specs.declared.taken.Taken.TheVariants.{Repeat, Ahead, Stored}
 use Rattle.intake.specs.Known.{is_known, is_ahead}
 use Rattle.intake.specs.State.{Arrivals, nothing, arrivals_of, known_of, frame_in, frame_of}
-use Rattle.intake.specs.Steps.{with_frame, taken, missing_at, lacking_from, dropped}
+use Rattle.intake.specs.Steps.{with_frame, taken, missing_at, lacking_from, dropped, without_frame}
 use Rattle.intake.specs.Laws.{FramesLeaveWorkers, DropsLeaveWorkers, FramesStayKnown, DropsLeaveKnown}
 use Rattle.intake.specs.Laws.{FramesStayKept, DropsStayKept, GainsLeaveWorkers, GainsAreKnown, GainsLeaveKept}
-use Rattle.intake.proofs.Feeding.{known-cases, from_on-first, from_on-not}
+use Rattle.intake.specs.Laws.{ReleasesLeaveOthers, ReleasesLeaveWorkers}
+use Rattle.intake.proofs.Feeding.{known-cases, is_at-is, from_on-first, from_on-not}
 use Rattle.intake.proofs.Keeping.{from_on, same-key, is_at-same, known-with}
 use Rattle.intake.proofs.Holding.{below-known}
 use Rattle.intake.proofs.Seqs.{is_known-below}
@@ -221,3 +223,39 @@ gains-known all [] worker seq within =
 gains-known [] (base ∷ bases) worker seq within = absurd (omega (arith, within))
 gains-known (one ∷ all) (base ∷ bases) zero seq within = below-known base one.known seq
 gains-known (one ∷ all) (base ∷ bases) (suc worker) seq within = gains-known all bases worker seq (omega (arith, within))
+
+-- ---- a frame is handed out
+
+is_at-apart : (seq other : ℕ) → (other ≡ seq → ⊥) → is_at (nat_cmp other) seq ≡ false
+is_at-apart seq other apart = elim (cases_Bool (is_at (nat_cmp other) seq)) [
+  | inl same ↦ absurd (apart (is_at-is other seq same))
+  | inr other ↦ other
+]
+
+-- any other is found as before
+others-found : (kept : List (ℕ × Frame)) (seq other : ℕ) → (other ≡ seq → ⊥)
+    → frame_in (remove_entry (is_at (nat_cmp seq)) kept) other ≡ frame_in kept other
+others-found [] seq other apart = refl
+others-found (entry ∷ kept) seq other apart =
+    by (others-found kept seq other apart) (is_at (nat_cmp seq) entry.0) refl
+  where
+    by : frame_in (remove_entry (is_at (nat_cmp seq)) kept) other ≡ frame_in kept other → (here : Bool)
+        → is_at (nat_cmp seq) entry.0 ≡ here
+        → frame_in (cond here kept (entry ∷ remove_entry (is_at (nat_cmp seq)) kept)) other ≡ frame_in (entry ∷ kept) other
+    by rest true is =
+        let key : seq ≡ entry.0 = is_at-is seq entry.0 is in
+        sym (cond-false (is_at (nat_cmp other) entry.0) (Some entry.1) (frame_in kept other)
+        (is_at-apart entry.0 other (λ e. apart (e ∙ sym key))))
+    by rest false is = ap (λ (found : Option Frame). cond (is_at (nat_cmp other) entry.0) (Some entry.1) found) rest
+
+pub releases-others : ReleasesLeaveOthers
+releases-others all worker seq other apart = elim (cases_lt worker (length all)) [
+  | inl within ↦ ap (λ (of_worker : Arrivals). frame_in of_worker.kept other)
+      (get_or-set_same all worker (without_frame (arrivals_of all worker) seq) nothing within)
+      ∙ others-found (arrivals_of all worker).kept seq other apart
+  | inr past ↦ ap (λ (l : List Arrivals). frame_in (get_or l worker nothing).kept other)
+      (set_past all worker (without_frame (arrivals_of all worker) seq) past)
+]
+
+pub releases-workers : ReleasesLeaveWorkers
+releases-workers all worker seq = length-set all worker (without_frame (arrivals_of all worker) seq)

@@ -6,10 +6,10 @@ use Rattle.rows.specs.declared.commit.Commit.{Commit}
 use Rattle.update_log.specs.declared.frame.Frame.{Frame}
 use Rattle.update_log.specs.Streams.{stream_of}
 use Rattle.intake.specs.Known.{is_known, first_missing_from}
-use Rattle.intake.specs.State.{Arrivals, known_of, frame_of}
-use Rattle.intake.specs.Steps.{no_arrivals, taken, lacking, dropped, gained}
+use Rattle.intake.specs.State.{Arrivals, arrivals_of, known_of, frame_of}
+use Rattle.intake.specs.Steps.{no_arrivals, taken, lacking, dropped, gained, released}
 use Rattle.intake.specs.Kept.{frames_between, AreKept, AreKeptFrom}
-use Rattle.intake.specs.Streams.{AreFrom}
+use Rattle.intake.specs.Streams.{IsFrom, AreFrom}
 
 -- if nothing has come, all of it is of any list
 abbrev pub NothingIsFrom : Type 0
@@ -41,6 +41,25 @@ abbrev pub KeptAreOfStream : Type 0
 KeptAreOfStream =
     (commits : List Commit) (all : List Arrivals) (worker low high : ℕ) → AreFrom commits all → AreKept all worker low high
     → frames_between all worker low high ≡ take (high - low) (drop low (stream_of commits worker))
+
+-- ---- one worker, whose frames are any list
+
+-- if nothing has come of it, that is of any list
+abbrev pub NothingIsOf : Type 0
+NothingIsOf = (frames : List Frame) (workers worker : ℕ) → IsFrom frames (arrivals_of (no_arrivals workers) worker)
+
+-- it stays of the list if a frame of the list comes
+abbrev pub FramesKeepOf : Type 0
+FramesKeepOf =
+    (frames : List Frame) (all : List Arrivals) (bases : List ℕ) (frame : Frame)
+    → slice_get frames frame.seq ≡ Some frame → IsFrom frames (arrivals_of all frame.worker)
+    → IsFrom frames (arrivals_of (taken all bases frame).1 frame.worker)
+
+-- frames that are kept one after the other are those of the list
+abbrev pub KeptAreOf : Type 0
+KeptAreOf =
+    (frames : List Frame) (all : List Arrivals) (worker low high : ℕ) → IsFrom frames (arrivals_of all worker)
+    → AreKept all worker low high → frames_between all worker low high ≡ take (high - low) (drop low frames)
 
 -- ---- what is known, and kept
 
@@ -86,6 +105,16 @@ abbrev pub DropsStayKept : Type 0
 DropsStayKept =
     (all : List Arrivals) (lows counts : List ℕ) → ((worker : ℕ) → slice_index lows worker ≤ slice_index counts worker)
     → AreKeptFrom all lows → AreKeptFrom (dropped all counts) counts
+
+-- where a frame is handed out, all others that are kept stay so
+abbrev pub ReleasesLeaveOthers : Type 0
+ReleasesLeaveOthers =
+    (all : List Arrivals) (worker seq other : ℕ) → (other ≡ seq → ⊥) → frame_of (released all worker seq) worker other
+    ≡ frame_of all worker other
+
+-- and there are as many workers
+abbrev pub ReleasesLeaveWorkers : Type 0
+ReleasesLeaveWorkers = (all : List Arrivals) (worker seq : ℕ) → length (released all worker seq) ≡ length all
 
 -- a frame that is lacking is of a worker that is there
 abbrev pub LackingIsOfWorker : Type 0

@@ -2,7 +2,8 @@
 use Rattle.std.specs.Prelude.{ℕ, ◌+◌, List, [], ◌∷◌, Option, None, Some, nat_lt, nat_le, replicate, slice_set, slice_index, if◌then◌else◌}
 use Rattle.std.specs.List.{filter}
 use Rattle.std.specs.Ordering.{nat_cmp}
-use Rattle.std.specs.BTreeMap.{insert_entry}
+use Rattle.std.specs.BTreeMap.{insert_entry, is_at}
+use Rattle.std.specs.Map.{remove_entry}
 use Rattle.update_log.specs.declared.frame.Frame.{Frame}
 use Rattle.intake.specs.declared.taken.Taken.{Taken}
 use Rattle.intake.specs.declared.taken.Taken.TheVariants.{Repeat, Ahead, Stored}
@@ -64,3 +65,11 @@ abbrev pub dropped : List Arrivals → List ℕ → List Arrivals
 dropped [] counts = []
 dropped (arrivals ∷ all) [] = arrivals ∷ all
 dropped (arrivals ∷ all) (count ∷ counts) = without_below arrivals count ∷ dropped all counts
+
+-- what has come of a worker once the frame of a seq is handed out: it stays known
+abbrev pub without_frame : Arrivals → ℕ → Arrivals
+without_frame arrivals seq = record arrivals { kept = remove_entry (is_at (nat_cmp seq)) arrivals.kept }
+
+-- what has come once the frame of a worker's seq is handed out
+abbrev pub released : List Arrivals → ℕ → ℕ → List Arrivals
+released all worker seq = slice_set all worker (without_frame (arrivals_of all worker) seq)

@@ -5,7 +5,7 @@ ghost use Rattle.std.specs.Option.{option_map};
 ghost use Rattle.update_log.specs.declared.frame.Frame.{Frame as FrameOf};
 ghost use Rattle.intake.specs.Known.{is_known, first_missing, first_missing_from};
 ghost use Rattle.intake.specs.State.{nothing, frame_in};
-ghost use Rattle.intake.specs.Steps.{with_frame, without_below, known_below};
+ghost use Rattle.intake.specs.Steps.{with_frame, without_below, without_frame, known_below};
 ghost use Rattle.intake.specs.Inner.Collecting.{taken_by, begins_below, NoneBelow};
 
 use crate::known_seqs::KnownSeqs;
@@ -149,6 +149,22 @@ impl Collector {
         while first_is_below(&self.kept, count) {
             self.kept.pop_first();
         }
+    }
+
+    /// Hands out the frame of that seq, if it is kept. It stays known.
+    pub fn release(&mut self, seq: u64) -> Option<Frame>
+        ensures frame { result ≡ frame_in self.old.kept seq }
+        ensures left { self.new ≡ without_frame self.old seq }
+    {
+        self.kept.remove(&seq)
+    }
+
+    /// Forgets all that came.
+    pub fn forget(&mut self)
+        ensures { self.new ≡ nothing }
+    {
+        self.known.forget();
+        self.kept.clear();
     }
 }
 

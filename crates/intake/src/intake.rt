@@ -5,7 +5,7 @@ ghost use Rattle.std.specs.Option.{option_map};
 ghost use Rattle.update_log.specs.declared.frame.Frame.{Frame as FrameOf};
 ghost use Rattle.intake.specs.Known.{first_missing, first_missing_from};
 ghost use Rattle.intake.specs.State.{known_of, frame_of};
-ghost use Rattle.intake.specs.Steps.{no_arrivals, taken, lacking, dropped, gained};
+ghost use Rattle.intake.specs.Steps.{no_arrivals, taken, lacking, dropped, gained, released};
 
 use crate::collector::Collector;
 use crate::taken::Taken;
@@ -166,6 +166,23 @@ impl Intake {
     {
         drop_each(&mut self.workers, counts);
     }
+
+    /// Hands out the frame of that seq of an existing worker, if it is kept; it stays known. Takes no
+    /// memory.
+    pub fn release(&mut self, worker: u8, seq: u64) -> Option<Frame>
+        requires { worker < length self.old }
+        ensures frame { result ≡ frame_of self.old worker seq }
+        ensures left { self.new ≡ released self.old worker seq }
+    {
+        self.workers[worker as usize].release(seq)
+    }
+
+    /// Forgets all that arrived, and releases its memory. Takes no memory.
+    pub fn forget(&mut self)
+        ensures { self.new ≡ no_arrivals (length self.old) }
+    {
+        forget_each(&mut self.workers);
+    }
 }
 
 /// The base of a worker; 0 if it has none.
@@ -229,5 +246,14 @@ fn drop_each(workers: &mut [Collector], counts: &[u64])
             return;
         }
         workers[worker].drop_below(*count);
+    }
+}
+
+/// Forgets what arrived from each worker.
+fn forget_each(workers: &mut [Collector])
+    ensures { workers.new ≡ no_arrivals (length workers.old) }
+{
+    for worker in 0..workers.len() {
+        workers[worker].forget();
     }
 }

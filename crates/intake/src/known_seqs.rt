@@ -126,6 +126,16 @@ impl KnownSeqs {
             self.missing = pass_known(base, &mut self.above);
         }
     }
+
+    /// No seq is known any more.
+    pub fn forget(&mut self)
+        ensures { self.new ≡ [] }
+    {
+        self.missing = 0;
+        self.above.clear();
+        self.base = 0;
+        self.next = 0;
+    }
 }
 
 /// The first missing seq, given that all before `from` are known and these are the known ones from

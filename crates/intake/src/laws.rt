@@ -5,6 +5,7 @@ ghost use Rattle.intake.specs.Laws.{FramesLeaveWorkers, DropsLeaveWorkers, Frame
 ghost use Rattle.intake.specs.Laws.{FramesStayKept, DropsStayKept, NoneLackingIsComplete, LackingIsOfWorker};
 ghost use Rattle.intake.specs.Laws.{FirstMissingIsLeast, LackingIsLeast};
 ghost use Rattle.intake.specs.Laws.{GainsLeaveWorkers, GainsAreKnown, GainsLeaveKept};
+ghost use Rattle.intake.specs.Laws.{NothingIsOf, FramesKeepOf, KeptAreOf, ReleasesLeaveOthers, ReleasesLeaveWorkers};
 
 /// If only frames of a list of commits arrive at an intake, it has frames of that list's streams,
 /// also as the list grows, as frames are dropped, and as frames of these streams are gained; and a
@@ -47,4 +48,15 @@ pub fn frames_are_gained()
     ensures workers { GainsLeaveWorkers }
     ensures known { GainsAreKnown }
     ensures kept { GainsLeaveKept }
+{}
+
+/// A worker's frames may be any list: if only frames of it arrive, what is known and kept is of that
+/// list, and a run of frames that is kept is that run of it. `Intake::release` leaves all other
+/// frames of the worker. It does nothing: its contract is the laws.
+pub fn arrivals_stay_of_a_list()
+    ensures nothing { NothingIsOf }
+    ensures frames { FramesKeepOf }
+    ensures kept { KeptAreOf }
+    ensures released { ReleasesLeaveOthers }
+    ensures workers { ReleasesLeaveWorkers }
 {}

@@ -17,11 +17,14 @@
 //! each seq is passed once. With bases this needs `aim`. An intake holds, for each worker, the first
 //! missing seq, the known ones above it, and the frames that were not dropped.
 //!
+//! The pieces of an image are numbered as frames are, so they are collected as the frames of one
+//! worker; then `release` hands them out, and `forget` begins anew.
+//!
 //! Promised: each call is exact, except that it may run out of memory; only `new`, `take` and
 //! `take_owned` need memory. `arrivals_stay_of_streams` states that an intake holds frames of a
-//! list's streams if only frames of that list arrive, `known_frames_stay_kept` which frames stay
-//! known and kept, `frames_are_gained` which become known without arriving, and
-//! `first_missing_is_least` which seq is the first missing one.
+//! list's streams if only frames of that list arrive, `arrivals_stay_of_a_list` the same of any list
+//! of frames, `known_frames_stay_kept` which frames stay known and kept, `frames_are_gained` which
+//! become known without arriving, and `first_missing_is_least` which seq is the first missing one.
 //!
 //! It uses `update_log` for frames. If a call fails for lack of memory, its value is unchanged
 //! unless the call says otherwise.
@@ -35,6 +38,7 @@ mod taken;
 
 pub use intake::Intake;
 pub use laws::{
-    arrivals_stay_of_streams, first_missing_is_least, frames_are_gained, known_frames_stay_kept,
+    arrivals_stay_of_a_list, arrivals_stay_of_streams, first_missing_is_least, frames_are_gained,
+    known_frames_stay_kept,
 };
 pub use taken::Taken;

@@ -1,5 +1,6 @@
 //! A replica that answers batches, turn by turn, and says what it does.
 
+use crate::bases::millis_since;
 use crate::batches::{Batches, Next, Taker};
 use crate::clients::Clients;
 use crate::ending::Ending;
@@ -24,6 +25,9 @@ use store::ApplyStore;
 
 /// For how long a request is waited for at once, in milliseconds.
 const REQUEST_MILLIS: u64 = 10;
+
+/// How many datagrams come, at most, while no batch waits, until no more are received: a frame is kept, and costs memory.
+const IDLE_DATAGRAMS_MAX: u64 = 65_536;
 
 /// Whose batch is under way.
 #[derive(Clone, Copy)]
@@ -58,6 +62,8 @@ pub struct Follower<S: ApplyStore + Sync, P: Port + Drop> {
     told_at: Option<Instant>,
     /// How many batches of the input it has answered.
     answered: u64,
+    /// How many datagrams had come when a batch was answered last.
+    received: u64,
     /// A batch that waits until the replica has its columns; empty if none does.
     held: Vec<Query>,
 }
@@ -83,6 +89,7 @@ impl<S: ApplyStore + Sync, P: Port + Drop> Follower<S, P> {
             begun_at: None,
             told_at: None,
             answered: 0,
+            received: 0,
             held: Vec::new(alloc),
         }
     }
@@ -125,6 +132,10 @@ impl<S: ApplyStore + Sync, P: Port + Drop> Follower<S, P> {
             if let UnderWay::Nothing = self.under_way {
                 self.await_request(host, clients);
                 self.begin_next(host, batches, &mut taker, clients)?;
+            }
+            if self.is_full() {
+                self.rest(host, clients);
+                continue;
             }
             self.count_turn(host, clients)?;
             match self.turn(host, clients, writer, errors) {
@@ -178,6 +189,21 @@ impl<S: ApplyStore + Sync, P: Port + Drop> Follower<S, P> {
             && self.is_quiet
         {
             gathering.wait(host.rt, Duration::from_millis(REQUEST_MILLIS));
+        }
+    }
+
+    /// Whether it receives nothing for now: no batch waits, and as much has come since the last one as it takes while none does. What
+    /// comes now the socket loses; it is asked for once a batch waits.
+    fn is_full(&self) -> bool {
+        let received = self.node.traffic().received.saturating_sub(self.received);
+        matches!(self.under_way, UnderWay::Nothing) && received >= IDLE_DATAGRAMS_MAX
+    }
+
+    /// Lets a moment pass in which it receives nothing; with clients, the wait for a request is that moment.
+    fn rest<T: Wait + Clock>(&mut self, host: Host<'_, T>, clients: Option<Clients<'_>>) {
+        self.is_quiet = true;
+        if clients.is_none() {
+            host.rt.sleep(Duration::from_millis(REQUEST_MILLIS));
         }
     }
 
@@ -344,7 +370,7 @@ impl<S: ApplyStore + Sync, P: Port + Drop> Follower<S, P> {
     }
 
     /// Serves one turn, and hands on the report if a batch is answered. Whether one is.
-    fn turn<T: Threads + Wait + Sync, W: Write, E: Write>(
+    fn turn<T: Threads + Wait + Clock + Sync, W: Write, E: Write>(
         &mut self,
         host: Host<'_, T>,
         clients: Option<Clients<'_>>,
@@ -363,6 +389,8 @@ impl<S: ApplyStore + Sync, P: Port + Drop> Follower<S, P> {
             Ok(_) => return Ok(false),
             Err(fault) => return Err(fault_of(fault)),
         };
+        self.received = traffic.received;
+        self.say_image(host, errors);
         if !self.held.is_empty() {
             self.go_on(host.alloc)?;
             return Ok(false);
@@ -395,6 +423,23 @@ impl<S: ApplyStore + Sync, P: Port + Drop> Follower<S, P> {
             let _ = writeln!(&mut *errors, "batch {} at version {version}", self.answered);
         }
         Ok(())
+    }
+
+    /// Says which image was fetched for the batch that was answered, if it went by one.
+    fn say_image<T: Wait + Clock, E: Write>(&mut self, host: Host<'_, T>, errors: &Mutex<E>) {
+        let Some(image) = self.node.take_image() else {
+            return;
+        };
+        if !self.pace.says {
+            return;
+        }
+        let millis = millis_since(host, &self.begun_at);
+        let mut errors = errors.lock(host.rt);
+        let _ = writeln!(
+            &mut *errors,
+            "image {} pieces {} bytes {} in {millis} ms",
+            image.base, image.pieces, image.bytes
+        );
     }
 
     /// Says what came while a batch waits, once a second.

@@ -2,7 +2,9 @@
 
 ghost use Rattle.std.specs.Prelude.{◌≡◌, [], All, IfOk};
 
+use crate::bases::{Bases, while_keeping};
 use crate::crew_jobs::do_all;
+use crate::ending::Ending;
 use crate::faults::NodeFault;
 use crate::host::Host;
 use crate::job_progress::JobProgress;
@@ -37,6 +39,8 @@ pub struct Primary<L: Origin, P: Port + Drop> {
     pub crew: Vec<Worker<L>>,
     /// At which it looks at what is durable.
     pub looking: Seat<L>,
+    /// At which bases are taken. One thread alone takes them; the lock is what lets it have the seat.
+    pub keeping: Mutex<Seat<L>>,
 }
 
 /// What a primary is to do.
@@ -48,6 +52,7 @@ pub struct Work<'a> {
     pub pace: Pace,
     /// What its threads count.
     pub figures: &'a Figures,
+    pub bases: &'a Bases,
 }
 
 impl<L: Origin, P: Port + Drop> Primary<L, P> {
@@ -74,17 +79,19 @@ impl<L: Origin, P: Port + Drop> Primary<L, P> {
         if node.pass_durable(host.rt, line).is_err() {
             return Err(NodeFault::Memory);
         }
-        let Some(looking) = line.seat(host.rt) else {
+        let (Some(looking), Some(keeping)) = (line.seat(host.rt), line.seat(host.rt)) else {
             return Err(NodeFault::Memory);
         };
         Ok(Primary {
             server: Server::new(node, pace),
             crew: crew_of(host, line, workers)?,
             looking,
+            keeping: Mutex::new(keeping),
         })
     }
 
-    /// Does its work: jobs of before first, and then it serves; or jobs as they come, while it serves. In the second case alone
+    /// Does its work: jobs of before first, and then it serves; or jobs as they come, while it serves. A thread beside it takes
+    /// bases while it serves. In the second case alone
     /// `beside` is called too, in the thread that calls this. It is to end once the flag that it is given is set: all other
     /// threads of the node have ended then. Its fault ends the node.
     pub fn run<
@@ -115,8 +122,36 @@ impl<L: Origin, P: Port + Drop> Primary<L, P> {
         };
         let Streams { writer, errors, .. } = streams;
         self.do_jobs(host, line, work, jobs, writer, errors)?;
-        self.server
-            .serve(host, line, work.figures, &Mutex::new(errors))
+        let errors = Mutex::new(errors);
+        let errors = &errors;
+        let Primary {
+            server,
+            keeping,
+            ..
+        } = self;
+        let Work {
+            bases,
+            figures,
+            pace,
+            ..
+        } = work;
+        let ending = Ending::of(0);
+        while_keeping(
+            host,
+            line,
+            keeping,
+            pace.says,
+            bases,
+            errors,
+            ||
+                requires { Unit {0} }
+            {
+                if let Err(fault) = server.serve(host, line, bases, figures, errors) {
+                    ending.note(host.rt, fault);
+                }
+            },
+        );
+        ending.into_result()
     }
 
     /// Does jobs of before, and says meanwhile how many are done, if it is to.
@@ -151,10 +186,12 @@ impl<L: Origin, P: Port + Drop> Primary<L, P> {
             server,
             crew,
             looking,
+            keeping,
         } = self;
-        let mut seats = Vec::with_capacity(alloc, crew.len().saturating_add(2))?;
+        let mut seats = Vec::with_capacity(alloc, crew.len().saturating_add(3))?;
         seats.push(server.into_seat())?;
         seats.push(looking)?;
+        seats.push(keeping.into_inner())?;
         for worker in crew {
             seats.push(worker.into_seat())?;
         }
@@ -190,8 +227,8 @@ pub fn read_jobs<T: Clock, R: Read, E: Write>(
                 }
                 say_read(&mut progress, jobs.len(), errors);
             }
-            // There are no looks among jobs that are read before.
-            Ok(Requested::Request(Request::Get { .. })) => {}
+            // There are no looks and no bases among jobs that are read before.
+            Ok(Requested::Request(Request::Get { .. } | Request::Base { .. })) => {}
             Ok(Requested::NotYet) => {}
             Ok(Requested::End) => return Ok(jobs),
             Err(RequestFault::Memory) => return Err(NodeFault::Memory),

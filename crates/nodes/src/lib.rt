@@ -17,6 +17,7 @@
 #![tactic(auto)]
 
 mod answers;
+mod bases;
 mod batches;
 mod clients;
 mod crew_jobs;
@@ -40,6 +41,7 @@ mod streams;
 mod threads;
 mod waiting;
 
+pub use bases::Bases;
 pub use clients::Clients;
 pub use ending::Ending;
 pub use faults::NodeFault;

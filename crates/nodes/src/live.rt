@@ -3,6 +3,7 @@
 ghost use Rattle.std.specs.Prelude.{◌≡◌, ◌<◌, ◌≤◌, ◌↔◌, length, All, IsTrue};
 
 use crate::answers::{tell_answers, tell_unread};
+use crate::bases::{Bases, base_line, while_keeping};
 use crate::ending::Ending;
 use crate::faults::NodeFault;
 use crate::host::Host;
@@ -37,6 +38,7 @@ struct Live<'a, W, E> {
     /// Whether all threads of the node have ended, but for what is done beside it.
     is_over: AtomicBool,
     figures: &'a Figures,
+    bases: &'a Bases,
     output: Mutex<W>,
     errors: Mutex<E>,
     says: bool,
@@ -85,11 +87,12 @@ pub fn serve_live<
         ending: Ending::of(workers as u64),
         is_over: AtomicBool::new(false),
         figures: work.figures,
+        bases: work.bases,
         output: Mutex::new(writer),
         errors: Mutex::new(errors),
         says: work.pace.says,
     };
-    if try_threads(host, workers.saturating_add(2)).is_err() {
+    if try_threads(host, workers.saturating_add(3)).is_err() {
         return Err(NodeFault::Threads);
     }
     run_beside(host, line, primary, work.setup, reader, &live, beside);
@@ -160,8 +163,8 @@ fn do_beside<T: Wait, W, E, F: FnOnce(&AtomicBool) -> Result<(), NodeFault>>(
     }
 }
 
-/// Serves, does the jobs of each worker, and takes what comes from the input, each in a thread of its own, until all have
-/// ended.
+/// Serves, does the jobs of each worker, takes what comes from the input, and takes bases, each in a thread of its own, until
+/// all have ended.
 fn run_threads<
     L: Origin + Send + Sync,
     J: JournalStore + Drop + Send,
@@ -185,27 +188,42 @@ fn run_threads<
         server,
         crew,
         looking,
+        keeping,
     } = primary;
     let crew = crew.as_mut_slice();
     if crew.len() > setup.workers as usize {
         live.ending.note(host.rt, NodeFault::Memory);
         return;
     }
-    // The first clause asks for nothing; with one, the proof has at hand what may be sent to a thread.
-    join(
-        host.rt,
-        ||
-            requires { Unit {0} }
-        { serve(host, line, server, live) },
+    while_keeping(
+        host,
+        line,
+        keeping,
+        live.says,
+        live.bases,
+        &live.errors,
         ||
             requires { length crew.now ≤ L.workers }
         {
+            // Two of the clauses ask for nothing; with one, the proof has at hand what may be sent to a thread.
             join(
                 host.rt,
                 ||
+                    requires { Unit {0} }
+                { serve(host, line, server, live) },
+                ||
                     requires { length crew.now ≤ L.workers }
-                { work(host, line, crew, live) },
-                || read_on(host, looking, setup, reader, live),
+                {
+                    join(
+                        host.rt,
+                        ||
+                            requires { length crew.now ≤ L.workers }
+                        { work(host, line, crew, live) },
+                        ||
+                            requires { Unit {0} }
+                        { read_on(host, line, looking, setup, reader, live) },
+                    );
+                },
             );
         },
     );
@@ -267,7 +285,14 @@ fn serve<
     W: Write,
     E: Write,
 >(host: Host<'_, T>, line: &Line<L, J, H>, server: &mut Server<L, P>, live: &Live<'_, W, E>) {
-    if let Err(fault) = server.serve_on(host, line, &live.ending, live.figures, &live.errors) {
+    if let Err(fault) = server.serve_on(
+        host,
+        line,
+        live.bases,
+        &live.ending,
+        live.figures,
+        &live.errors,
+    ) {
         live.stop(host, fault);
     }
 }
@@ -397,14 +422,23 @@ fn are_all_of(jobs: &[Job], number: usize) -> bool
 }
 
 /// Takes what comes from the input, until it ends or all threads are to. Then the workers do what came, and end.
-fn read_on<L: Origin, T: Wait, R: Read, W: Write, E: Write>(
+fn read_on<
+    L: Origin,
+    J: JournalStore,
+    H: Wait + Drop,
+    T: Wait + Clock,
+    R: Read,
+    W: Write,
+    E: Write,
+>(
     host: Host<'_, T>,
+    line: &Line<L, J, H>,
     looking: &mut Seat<L>,
     setup: &Setup,
     reader: &mut R,
     live: &Live<'_, W, E>,
 ) {
-    match take_requests(host, looking, setup, reader, live) {
+    match take_requests(host, line, looking, setup, reader, live) {
         Ok(()) => {}
         // What cannot be answered is not begun.
         Err(fault @ NodeFault::Output(_)) => live.ending.stop(host.rt, fault),
@@ -413,9 +447,18 @@ fn read_on<L: Origin, T: Wait, R: Read, W: Write, E: Write>(
     live.end_all(host);
 }
 
-/// Hands each job of the input to its worker, and answers each look.
-fn take_requests<L: Origin, T: Wait, R: Read, W: Write, E: Write>(
+/// Hands each job of the input to its worker, answers each look, and takes each base.
+fn take_requests<
+    L: Origin,
+    J: JournalStore,
+    H: Wait + Drop,
+    T: Wait + Clock,
+    R: Read,
+    W: Write,
+    E: Write,
+>(
     host: Host<'_, T>,
+    line: &Line<L, J, H>,
     looking: &mut Seat<L>,
     setup: &Setup,
     reader: &mut R,
@@ -457,6 +500,9 @@ fn take_requests<L: Origin, T: Wait, R: Read, W: Write, E: Write>(
             ) => {
                 let look = Look { table, row, column };
                 tell_look(host, looking, &look, &setup.schema, live)?;
+            }
+            Ok(Requested::Request(Request::Base { .. })) => {
+                tell_base(host, line, looking, live)?;
             }
             Ok(Requested::NotYet) => {}
             Ok(Requested::End) => {
@@ -504,6 +550,23 @@ fn tell_look<L: Origin, T: Wait, W: Write, E>(
     };
     let mut output = live.output.lock(host.rt);
     print(&mut *output, line.as_slice())
+}
+
+/// Takes a base, and writes its line.
+fn tell_base<L: Origin, J: JournalStore, H: Wait + Drop, T: Wait + Clock, W: Write, E: Write>(
+    host: Host<'_, T>,
+    line: &Line<L, J, H>,
+    looking: &mut Seat<L>,
+    live: &Live<'_, W, E>,
+) -> Result<(), NodeFault> {
+    let taken = live
+        .bases
+        .take(host, line, looking, live.says, &live.errors);
+    let Ok(line) = base_line(host.alloc, &taken) else {
+        return Err(NodeFault::Memory);
+    };
+    let mut output = live.output.lock(host.rt);
+    print(&mut *output, line.as_bytes())
 }
 
 /// Tells of a line that does not read, and answers the job that it is in, which has this number. Whether it is in one.

@@ -1,5 +1,6 @@
 //! A primary that serves, turn by turn, and says what it does.
 
+use crate::bases::{Bases, Kept, millis_since};
 use crate::ending::Ending;
 use crate::faults::NodeFault;
 use crate::host::Host;
@@ -26,6 +27,8 @@ pub struct Server<L: Origin, P: Port + Drop> {
     told_at: Option<Instant>,
     /// When it began, if the clock tells.
     begun_at: Option<Instant>,
+    /// How many frames are kept.
+    kept: Kept,
 }
 
 impl<L: Origin, P: Port + Drop> Server<L, P> {
@@ -37,6 +40,7 @@ impl<L: Origin, P: Port + Drop> Server<L, P> {
             told: 0,
             told_at: None,
             begun_at: None,
+            kept: Kept::all(),
         }
     }
 
@@ -56,10 +60,11 @@ impl<L: Origin, P: Port + Drop> Server<L, P> {
         &mut self,
         host: Host<'_, T>,
         line: &Line<L, J, H>,
+        bases: &Bases,
         figures: &Figures,
         errors: &Mutex<E>,
     ) -> Result<(), NodeFault> {
-        self.serve_turns(host, line, &Ending::of(0), figures, errors)
+        self.serve_turns(host, line, bases, &Ending::of(0), figures, errors)
     }
 
     /// Serves until the node ends: at once if it is stopped, and otherwise, once all that came is done, until the
@@ -68,6 +73,7 @@ impl<L: Origin, P: Port + Drop> Server<L, P> {
         &mut self,
         host: Host<'_, T>,
         line: &Line<L, J, H>,
+        bases: &Bases,
         ending: &Ending,
         figures: &Figures,
         errors: &Mutex<E>,
@@ -79,12 +85,12 @@ impl<L: Origin, P: Port + Drop> Server<L, P> {
             if ending.is_done() {
                 break;
             }
-            self.turn(host, line, figures, errors)?;
+            self.turn(host, line, bases, figures, errors)?;
         }
         if ending.has_failed(host.rt) {
             return Ok(());
         }
-        self.serve_turns(host, line, ending, figures, errors)
+        self.serve_turns(host, line, bases, ending, figures, errors)
     }
 
     /// Serves until the turns are used up, or the node is stopped.
@@ -92,6 +98,7 @@ impl<L: Origin, P: Port + Drop> Server<L, P> {
         &mut self,
         host: Host<'_, T>,
         line: &Line<L, J, H>,
+        bases: &Bases,
         ending: &Ending,
         figures: &Figures,
         errors: &Mutex<E>,
@@ -105,12 +112,12 @@ impl<L: Origin, P: Port + Drop> Server<L, P> {
                 self.say_traffic(host, errors);
                 return Ok(());
             }
-            self.turn(host, line, figures, errors)?;
+            self.turn(host, line, bases, figures, errors)?;
         }
         unreachable!()
     }
 
-    /// Serves until no node is left that it serves, or the turns are used up.
+    /// Serves until no node is left that it serves, or the turns are used up. It has no base taken.
     pub fn serve_while<J: JournalStore, H: Wait + Drop, T: Wait + Clock>(
         &mut self,
         host: Host<'_, T>,
@@ -118,28 +125,31 @@ impl<L: Origin, P: Port + Drop> Server<L, P> {
         left: &AtomicU64,
     ) -> Result<(), NodeFault> {
         let unsaid = Mutex::new(Vec::new(host.alloc));
+        let bases = Bases::new(0);
         let figures = Figures::without_replicas(host.alloc);
         let mut turns = self.pace.turns;
         for _ in host.rt.forever() {
             if left.load(Ordering::SeqCst) == 0 || !take_turn(&mut turns) {
                 return Ok(());
             }
-            self.turn(host, line, &figures, &unsaid)?;
+            self.turn(host, line, &bases, &figures, &unsaid)?;
         }
         unreachable!()
     }
 
-    /// Serves one turn, notes what it did, and says it.
+    /// Serves one turn, notes what it did, and says it; and has a base taken if one is due.
     fn turn<J: JournalStore, H: Wait + Drop, T: Wait + Clock, E: Write>(
         &mut self,
         host: Host<'_, T>,
         line: &Line<L, J, H>,
+        bases: &Bases,
         figures: &Figures,
         errors: &Mutex<E>,
     ) -> Result<(), NodeFault> {
         if self.node.turn(host.rt, line).is_err() {
             return Err(NodeFault::Socket);
         }
+        bases.look(host.rt, &mut self.kept, self.node.passed());
         figures.note_time(self.millis(host));
         figures.note_traffic(self.node.traffic());
         self.note_asked(host, figures, errors);
@@ -151,14 +161,10 @@ impl<L: Origin, P: Port + Drop> Server<L, P> {
 
     /// How many milliseconds ago it began; 0 if the clock does not tell.
     fn millis<T: Clock>(&mut self, host: Host<'_, T>) -> u64 {
-        let Some(begun_at) = &self.begun_at else {
+        if self.begun_at.is_none() {
             self.begun_at = Instant::now(host.rt).ok();
-            return 0;
-        };
-        match begun_at.elapsed(host.rt) {
-            Ok(elapsed) => u64::try_from(elapsed.as_millis()).unwrap_or(u64::MAX),
-            Err(_) => 0,
         }
+        millis_since(host, &self.begun_at)
     }
 
     /// Notes which replicas have asked, and says it.

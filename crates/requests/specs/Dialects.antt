@@ -12,8 +12,9 @@ abbrev pub has_step : Dialect → Step → Bool
 has_step Live step = true
 has_step Jobs step = not (is_condition step)
 
--- a line that a dialect may have: looks are those of live jobs, too
+-- a line that a dialect may have: looks and bases are those of live jobs, too
 abbrev pub IsLineOf : Dialect → JobLine → Type 0
 IsLineOf dialect (lines.Step step) = has_step dialect step ≡ true
 IsLineOf dialect (lines.Get table row column) = dialect ≡ Live
+IsLineOf dialect lines.Base = dialect ≡ Live
 IsLineOf dialect other = Unit {0}

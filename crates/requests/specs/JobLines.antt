@@ -76,17 +76,22 @@ ReadsLike setup rest word read =
     ((event : Event) × IsEventLine setup (event_line word rest) event × (read ≡ meaning word event))
     ⊎ ((reason : Reason) × IsEventFault setup (event_line word rest) reason × (read ≡ Err reason))
 
--- what any other line says
-abbrev pub without_event : List ℕ → Result JobLine Reason
-without_event line = if bytes_eq line (codes "end") then Ok lines.End else Err UnknownEvent
+-- what a line of one word says in the dialect of live jobs alone
+abbrev pub live_line : Dialect → List ℕ → Result JobLine Reason
+live_line Live line = if bytes_eq line (codes "base") then Ok lines.Base else Err UnknownEvent
+live_line Jobs line = Err UnknownEvent
 
-abbrev pub ReadsBy : Setup → List ℕ → Option Word → Result JobLine Reason → Type 0
-ReadsBy setup line None read = read ≡ without_event line
-ReadsBy setup line (Some word) read = ReadsLike setup (drop (length (first_word line)) line) word read
+-- what any other line says
+abbrev pub without_event : Dialect → List ℕ → Result JobLine Reason
+without_event dialect line = if bytes_eq line (codes "end") then Ok lines.End else live_line dialect line
+
+abbrev pub ReadsBy : Setup → Dialect → List ℕ → Option Word → Result JobLine Reason → Type 0
+ReadsBy setup dialect line None read = read ≡ without_event dialect line
+ReadsBy setup dialect line (Some word) read = ReadsLike setup (drop (length (first_word line)) line) word read
 
 -- what a line that is not skipped says, and one that is
 abbrev pub ReadsIf : Bool → Setup → Dialect → List ℕ → Result JobLine Reason → Type 0
-ReadsIf true setup dialect line read = ReadsBy setup line (word_of dialect (first_word line)) read
+ReadsIf true setup dialect line read = ReadsBy setup dialect line (word_of dialect (first_word line)) read
 ReadsIf false setup dialect line read = read ≡ Ok lines.Nothing
 
 -- what a line of jobs says in a dialect, on the tables and workers of a setup, or why it is none

@@ -11,11 +11,12 @@ use Rattle.requests.specs.declared.request.Requested.TheVariants as answers
 use Rattle.requests.specs.Dialects.{has_step}
 
 -- a request that the lines of a dialect may make, with so many workers: a job has a worker that is there, steps of the
--- dialect and a line for each of them, and looks are those of live jobs
+-- dialect and a line for each of them, and looks and bases are those of live jobs
 abbrev pub IsRequestOf : ℕ → Dialect → Request → Type 0
 IsRequestOf workers dialect (requests.Job job line step_lines) =
     (job.worker < workers) × (list_all (has_step dialect) job.steps.items ≡ true) × (length step_lines.items ≡ length job.steps.items)
 IsRequestOf workers dialect (requests.Get table row column line) = dialect ≡ Live
+IsRequestOf workers dialect (requests.Base line) = dialect ≡ Live
 
 -- an answer that such lines may give
 abbrev pub IsRequested : Setup → Dialect → Requested → Type 0

@@ -3,6 +3,6 @@
 pub enum Dialect {
     /// Jobs of changes alone.
     Jobs,
-    /// Jobs that may have conditions, and looks between them.
+    /// Jobs that may have conditions, and looks and bases between them.
     Live,
 }

@@ -78,7 +78,7 @@ impl JobAssembly {
         self.owed.take()
     }
 
-    /// Takes in the next line; the job or the look that it ends, if it does.
+    /// Takes in the next line; the request that it ends, if it does.
     pub fn take_line(
         &mut self,
         alloc: Global,
@@ -181,6 +181,7 @@ impl JobAssembly {
                 column,
                 line: self.count,
             })),
+            (JobLine::Base, JobState::Outside) => Ok(Some(Request::Base { line: self.count })),
             (_, _) => {
                 let misread = misplaced(alloc, line, self.place());
                 Err(self.fault(alloc, line, LineFault::WrongPlace, misread))

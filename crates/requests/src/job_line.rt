@@ -28,6 +28,8 @@ pub enum JobLine {
         row: RowId,
         column: usize,
     },
+    /// A base is to be taken.
+    Base,
     /// Nothing: the line is empty, or a comment.
     Nothing,
 }
@@ -51,7 +53,7 @@ pub fn read_job_line(
     let (first, rest) = first_word(line);
     match word_of(dialect, first) {
         Some(word) => read_as(alloc, setup, word, rest),
-        None => Ok(without_event(line)),
+        None => Ok(without_event(dialect, line)),
     }
 }
 
@@ -65,14 +67,17 @@ fn is_kept(line: &[u8]) -> bool
     }
 }
 
-/// What a line says whose first word is that of no event: `end`, or nothing that is known.
-fn without_event(line: &[u8]) -> Result<JobLine, Reason>
-    ensures { result ≡ without_event line.now }
+/// What a line says whose first word is that of no event: `end`, that of a live base, or nothing that is
+/// known.
+fn without_event(dialect: Dialect, line: &[u8]) -> Result<JobLine, Reason>
+    ensures { result ≡ without_event dialect line.now }
 {
     if line == b"end".as_slice() {
-        Ok(JobLine::End)
-    } else {
-        Err(Reason::UnknownEvent)
+        return Ok(JobLine::End);
+    }
+    match dialect {
+        Dialect::Live if line == b"base".as_slice() => Ok(JobLine::Base),
+        _ => Err(Reason::UnknownEvent),
     }
 }
 

@@ -33,7 +33,7 @@ impl JobReader {
         }
     }
 
-    /// The next job, or look, on the tables and workers of this setup. `NotYet` if the reader says that a read
+    /// The next request, on the tables and workers of this setup. `NotYet` if the reader says that a read
     /// would have to wait, and after 1,000 lines without a request, so that a caller can see whether it is to
     /// end while comments or skipped lines stream in.
     ///

@@ -51,17 +51,19 @@ fn look_at_job_line<'a>(
     }
 }
 
-/// Fails at a line whose first word begins none of this dialect, or is `end`.
+/// Fails at a line whose first word begins none of this dialect, or is all of it.
 fn look_at_other_line<'a>(
     dialect: Dialect,
     first: &'a [u8],
     words: &mut LineWords<'a>,
 ) -> Result<(), BadWord<'a>> {
-    if first == b"end".as_slice() {
+    let is_base = first == b"base".as_slice();
+    if first == b"end".as_slice() || is_base && dialect == Dialect::Live {
         return words.end();
     }
-    let why = match (dialect, word_of(Dialect::Live, first)) {
-        (Dialect::Jobs, Some(_)) => WordFault::LiveOnly,
+    let is_live = is_base || word_of(Dialect::Live, first).is_some();
+    let why = match dialect {
+        Dialect::Jobs if is_live => WordFault::LiveOnly,
         _ => WordFault::NoJobLine,
     };
     Err(BadWord::new(first, why))

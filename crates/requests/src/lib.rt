@@ -1,8 +1,8 @@
 //! Jobs and batches of queries, read line by line, and the lines that answer jobs.
 //!
 //! `Lines` cuts the bytes of any reader into lines. `read_job_line` reads one line of jobs.
-//! `JobReader` makes whole jobs of such lines, and looks between them; `BatchReader` makes batches of
-//! queries. Both say on which line each thing began, and on which line a fault stands and why: the
+//! `JobReader` makes whole jobs of such lines, with looks and bases between them; `BatchReader` makes
+//! batches of queries. Both say on which line each thing began, and on which line a fault stands and why: the
 //! texts of a `LineFault` are those that docs/FORMATS.md lists. `push_answer_line` makes the line of what
 //! a job is answered, and `answer_lines_of` those of several. The crate knows nothing of the program
 //! that prints them.

@@ -1,11 +1,11 @@
 //! Input, cut into lines.
 
-ghost use Rattle.std.specs.Prelude.{◌≡◌, ◌+◌, ◌<◌, ◌≤◌, ◌==◌, ◌∷◌, length, take, drop, true, position, MatchOption};
+ghost use Rattle.std.specs.Prelude.{◌≡◌, ◌+◌, ◌<◌, ◌≤◌, ◌==◌, ◌∷◌, length, take, drop, true, position, MatchOption, OnOk};
 ghost use Rattle.std.specs.List.{list_all};
 ghost use Rattle.requests.specs.Bytes.{is_inside};
 
 use bytes::{Bytes, BytesMut};
-use std::alloc::Global;
+use std::alloc::{AllocError, Global};
 use std::io::{self, ErrorKind, Read};
 
 /// Bytes of a line without its end, at most.
@@ -14,8 +14,11 @@ pub const LINE_LEN_MAX: usize = 65_536;
 /// Lines that one call of a reader of jobs or batches takes, at most.
 pub const LINES_MAX: u64 = 1000;
 
-/// Bytes that are asked for at once.
-const CHUNK_LEN: usize = 4096;
+/// Bytes for which room is made at first: room is cleared when it is made, and most bodies of requests are short.
+const ROOM_MIN: usize = 256;
+
+/// Bytes for which room is made at most: it grows with what comes.
+const ROOM_MAX: usize = 4096;
 
 /// What came of the input.
 #[derive(Drop)]
@@ -48,6 +51,10 @@ pub struct Lines {
     /// Whether it begins inside a line that is too long.
     is_cut: bool,
     has_ended: bool,
+    /// Bytes for which room is made next.
+    room: usize,
+    ghost some: { 0 < room },
+    ghost most: { room ≤ 4096 },
     ghost within: { looked_at ≤ length rest.items },
     ghost inside: { list_all is_inside (take looked_at rest.items) ≡ true },
 }
@@ -70,6 +77,7 @@ impl Lines {
             looked_at: 0,
             is_cut: false,
             has_ended: false,
+            room: ROOM_MIN,
         }
     }
 
@@ -217,12 +225,15 @@ impl Lines {
         ensures ended { EndsOnlyAtEnd self.old.has_ended self.new.has_ended (R.remaining reader.new) }
     {
         // Room comes first, so that nothing that is read is lost.
-        if self.rest.reserve(CHUNK_LEN).is_err() {
+        if self.make_room().is_err() {
             return Err(InputFault::Memory);
         }
         match self.rest.read_from(reader) {
             Ok(count) => {
                 self.has_ended = count == 0;
+                if count > self.room / 2 {
+                    self.room = ROOM_MAX.min(self.room * 2);
+                }
                 Ok(true)
             }
             Err(error) => match error.kind() {
@@ -230,6 +241,19 @@ impl Lines {
                 _ => Err(InputFault::Read(error)),
             },
         }
+    }
+
+    /// Makes room for a read, where less than a quarter of it is left.
+    fn make_room(&mut self) -> Result<(), AllocError>
+        ensures room { OnOk result (0 < self.new.rest.spare) }
+        ensures rest { self.new.rest.items ≡ self.old.rest.items }
+        ensures cut { self.new.is_cut ≡ self.old.is_cut }
+        ensures ended { self.new.has_ended ≡ self.old.has_ended }
+    {
+        if self.rest.capacity() - self.rest.len() > self.room / 4 {
+            return Ok(());
+        }
+        self.rest.reserve(self.room)
     }
 }
 

@@ -20,6 +20,11 @@ pub enum Request {
         /// The number of its line.
         line: u64,
     },
+    /// That what is durable becomes the primary's base.
+    Base {
+        /// The number of its line.
+        line: u64,
+    },
 }
 
 /// What came of the input.

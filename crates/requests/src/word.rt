@@ -5,7 +5,7 @@ ghost use Rattle.requests.specs.JobLines.{change_word, live_word, word_of, event
 
 use crate::dialect::Dialect;
 
-/// What the first word of a line of jobs says, other than `end`.
+/// What the first word of a line of jobs says, other than `end` and `base`.
 #[derive(Clone, Copy, PartialEq, Eq)]
 pub enum Word {
     Job,

@@ -230,6 +230,51 @@ pub fn head_of(request: u64, version: u64, counts: [u64; 2]) -> [u8; 80] {
     bytes
 }
 
+/// What a Head of two workers says with a base: how many pieces its image has, and how many frames
+/// each worker has up to it.
+#[derive(Clone, Copy)]
+pub struct Based {
+    pub base: u64,
+    pub pieces: u64,
+    pub lows: [u64; 2],
+}
+
+/// The Head that answers a request of replica 0, in its boot 1, at that version, with a base, of two
+/// workers with these counts.
+pub fn head_of_base(request: u64, version: u64, based: Based, counts: [u64; 2]) -> [u8; 80] {
+    let mut bytes = HEAD_OF_TWO;
+    bytes[15..23].copy_from_slice(&request.to_be_bytes());
+    bytes[23..31].copy_from_slice(&version.to_be_bytes());
+    bytes[31..39].copy_from_slice(&based.base.to_be_bytes());
+    bytes[39..47].copy_from_slice(&based.pieces.to_be_bytes());
+    bytes[48..56].copy_from_slice(&based.lows[0].to_be_bytes());
+    bytes[56..64].copy_from_slice(&counts[0].to_be_bytes());
+    bytes[64..72].copy_from_slice(&based.lows[1].to_be_bytes());
+    bytes[72..80].copy_from_slice(&counts[1].to_be_bytes());
+    bytes
+}
+
+/// The row of a piece, with the values 5 and -1: before the last piece of the image, or in it.
+#[derive(Clone, Copy)]
+pub enum Row {
+    Of(u64),
+    Last(u64),
+}
+
+/// The piece of a base with that number, which has a row.
+pub fn piece_of(base: u64, number: u64, row: Row) -> [u8; 53] {
+    let mut bytes = PIECE;
+    let (last, row) = match row {
+        Row::Of(row) => (0, row),
+        Row::Last(row) => (1, row),
+    };
+    bytes[6..14].copy_from_slice(&base.to_be_bytes());
+    bytes[14..22].copy_from_slice(&number.to_be_bytes());
+    bytes[22] = last;
+    bytes[27..35].copy_from_slice(&row.to_be_bytes());
+    bytes
+}
+
 /// The Ask of replica 0, in its boot 1, by that request.
 pub fn ask_of(request: u64) -> [u8; 23] {
     let mut bytes = ASK;

@@ -86,6 +86,13 @@ const ONE_BY_ONE: [Round; 12] = [
                 400,
                 b"line 1: no line of a job\n",
             ),
+            (
+                "POST",
+                "/jobs",
+                b"base\n",
+                400,
+                b"line 1: no line of a job\n",
+            ),
         ],
         true,
     ),

@@ -3,9 +3,10 @@
 use crate::drawn_plans::QUERIES;
 use scenarios_common::drawn_numbers::{draw, draw_node, draw_recent, is_drawn};
 use scenarios_model::slow_batches::{missing, waiting_count};
-use scenarios_model::slow_datagrams::{Datagram, read};
+use scenarios_model::slow_datagrams::{Datagram, Told, read};
 use scenarios_model::slow_events::{Event, Node};
 use scenarios_model::slow_frames::count_of;
+use scenarios_model::slow_images::missing_piece;
 use scenarios_model::slow_replicas::{Batch, first_missing, replica_of};
 use scenarios_model::slow_world::World;
 use std::alloc::{AllocError, Global};
@@ -28,6 +29,36 @@ fn sent_frame(world: &World, worker: u8, seq: u64) -> Option<u64> {
     None
 }
 
+/// The index of the datagram that is this piece; none where it was not sent.
+fn sent_piece(world: &World, base: u64, piece: u64) -> Option<u64> {
+    for (index, bytes) in world.sent.iter().enumerate() {
+        if let Some(
+            Datagram::Piece {
+                base: other,
+                number,
+            },
+        ) = read(bytes.as_slice())
+        {
+            if other == base && number == piece {
+                return Some(index as u64);
+            }
+        }
+    }
+    None
+}
+
+/// The index of the first piece that was sent of another base; none where there is none.
+fn sent_of_other_base(world: &World, base: u64) -> Option<u64> {
+    for (index, bytes) in world.sent.iter().enumerate() {
+        if let Some(Datagram::Piece { base: other, .. }) = read(bytes.as_slice()) {
+            if other != base {
+                return Some(index as u64);
+            }
+        }
+    }
+    None
+}
+
 /// The datagram that was sent last, with its index.
 fn last_sent(world: &World) -> Option<(u64, Datagram)> {
     let bytes = world.sent.last()?;
@@ -35,22 +66,34 @@ fn last_sent(world: &World) -> Option<(u64, Datagram)> {
     Some(((world.sent.len() as u64).saturating_sub(1), datagram))
 }
 
-/// What brings a batch on that has a version.
-fn draw_run(world: &World, number: u8, counts: &[u64]) -> Event {
-    let Some((worker, seq)) = missing(world, number, counts) else {
-        return Event::Run { replica: number };
+/// What brings a batch on that has a version; seldom a piece of another base, or the first one again, in
+/// place of what is missing. If the primary has another base than its Head told, it is mostly renewed soon.
+fn draw_run(state: &mut u64, world: &World, number: u8, told: &Told) -> Event {
+    if told.base != world.base && is_drawn(state, 4) {
+        return Event::Renew { replica: number };
+    }
+    let sent = match missing_piece(world, number) {
+        Some((base, _)) if is_drawn(state, 6) => sent_of_other_base(world, base),
+        Some((base, _)) if is_drawn(state, 6) => sent_piece(world, base, 0),
+        Some((base, piece)) => sent_piece(world, base, piece),
+        None => match missing(world, number, told.counts.as_slice()) {
+            Some((worker, seq)) => sent_frame(world, worker, seq),
+            None => return Event::Run { replica: number },
+        },
     };
-    if let Some(index) = sent_frame(world, worker, seq) {
+    if let Some(index) = sent {
         return Event::Deliver {
             index,
             node: Node::Replica(number),
         };
     }
     match last_sent(world) {
-        Some((index, Datagram::Want { .. })) if !world.stopped => Event::Deliver {
-            index,
-            node: Node::Primary,
-        },
+        Some((index, Datagram::Want { .. } | Datagram::Pull { .. })) if !world.stopped => {
+            Event::Deliver {
+                index,
+                node: Node::Primary,
+            }
+        }
         _ => Event::Run { replica: number },
     }
 }
@@ -75,7 +118,7 @@ fn draw_fetch(world: &World, number: u8) -> Event {
 /// What brings a replica's batch on; without a batch a query is opened, or asked.
 pub fn draw_round(state: &mut u64, world: &World, number: u8) -> Event {
     match replica_of(world, number).batch {
-        Batch::Fetched(_, counts) => draw_run(world, number, counts.as_slice()),
+        Batch::Fetched(told) => draw_run(state, world, number, &told),
         Batch::Asked => draw_fetch(world, number),
         Batch::None => {
             if waiting_count(world, number) > 0 && !is_drawn(state, 3) {
@@ -103,14 +146,20 @@ pub fn draw_push(state: &mut u64, alloc: Global, world: &World) -> Result<Event,
     let seq = if is_drawn(state, 3) {
         draw_recent(state, (count as usize).saturating_add(1), 4)
     } else {
-        first_missing(world.known.as_slice(), replica, worker)
+        first_missing(world, replica, worker)
     };
     Ok(Event::Push { worker, seq })
 }
 
+/// A delivery: mostly of one of the last datagrams, or else of any.
 pub fn draw_deliver(state: &mut u64, world: &World) -> Event {
+    let sent = world.sent.len();
     Event::Deliver {
-        index: draw_recent(state, world.sent.len(), 8),
+        index: if is_drawn(state, 3) {
+            draw(state, sent.max(1)) as u64
+        } else {
+            draw_recent(state, sent, 8)
+        },
         node: if is_drawn(state, 3) {
             Node::Primary
         } else {

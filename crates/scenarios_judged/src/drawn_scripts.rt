@@ -80,6 +80,7 @@ enum Choice {
     Open,
     Ask,
     Run,
+    Renew,
     Version,
     Dump,
     Restart,
@@ -87,7 +88,7 @@ enum Choice {
 }
 
 /// What is drawn, and how often.
-static WEIGHTS: [(Choice, usize); 24] = [
+static WEIGHTS: [(Choice, usize); 25] = [
     (Choice::Round, 60),
     (Choice::Write, 60),
     (Choice::Begin, 3),
@@ -99,7 +100,7 @@ static WEIGHTS: [(Choice, usize); 24] = [
     (Choice::Commit, 4),
     (Choice::Abort, 2),
     (Choice::Flush, 9),
-    (Choice::Base, 2),
+    (Choice::Base, 3),
     (Choice::Stop, 2),
     (Choice::Start, 1),
     (Choice::Push, 9),
@@ -108,6 +109,7 @@ static WEIGHTS: [(Choice, usize); 24] = [
     (Choice::Open, 3),
     (Choice::Ask, 2),
     (Choice::Run, 2),
+    (Choice::Renew, 2),
     (Choice::Version, 2),
     (Choice::Dump, 5),
     (Choice::Restart, 2),
@@ -204,7 +206,7 @@ struct Taste {
     patience: usize,
     /// Whether many queries are opened.
     opens: bool,
-    /// Whether bases are taken: what a base drops no replica can get before the next start.
+    /// Whether bases are taken, so that replicas go by image.
     bases: bool,
 }
 
@@ -240,6 +242,7 @@ fn draw_event(
         Choice::Open => Ok(draw_open(state, number)),
         Choice::Ask => Ok(Event::Ask { replica: number }),
         Choice::Run => Ok(Event::Run { replica: number }),
+        Choice::Renew => Ok(Event::Renew { replica: number }),
         Choice::Version => Ok(Event::Version { replica: number }),
         Choice::Dump => Ok(Event::Dump { replica: number }),
         Choice::Restart => Ok(Event::Restart {

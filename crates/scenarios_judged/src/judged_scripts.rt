@@ -3,7 +3,7 @@
 
 use crate::drawn_scripts::{drawn_script, text_of};
 use scenarios_model::slow_judge::judge;
-use scenarios_model::slow_tally::Tally;
+use scenarios_model::slow_tally::{MET, Tally};
 use std::alloc::Global;
 use std::process::Abort;
 use std::test::Fail;
@@ -16,7 +16,7 @@ const SCRIPTS: u64 = 1000;
 /// What each kind of event must answer in some script. Left out is what comes seldom or never:
 /// `too many entries` wants 4096 changes of one transaction, `ahead` 4096 frames of one worker, and
 /// `numbers used up` 2 to the 64th commits; a script has 200 events.
-const MUST: [(&str, &[&str]); 24] = [
+const MUST: [(&str, &[&str]); 25] = [
     ("begin", &["tx ", "stopped\n"]),
     (
         "insert",
@@ -63,6 +63,8 @@ const MUST: [(&str, &[&str]); 24] = [
             "42440302",
             "42440303",
             "42440304",
+            "42440305",
+            "42440306",
             "never sent\n",
         ],
     ),
@@ -70,8 +72,15 @@ const MUST: [(&str, &[&str]); 24] = [
     ("ask", &["sent ", "busy\n", "empty\n"]),
     (
         "run",
-        &["no batch\n", "waiting head\n", "waiting ", "version "],
+        &[
+            "no batch\n",
+            "waiting head\n",
+            "waiting piece ",
+            "waiting ",
+            "version ",
+        ],
     ),
+    ("renew", &["sent ", "empty\n", "no head\n"]),
     ("version", &["version "]),
     ("dump", &["version "]),
     ("restart", &["boot ", "boot used\n"]),
@@ -135,6 +144,9 @@ fn drawn_scripts_print_what_is_allowed(rt: HostRuntime) -> Result<(), Fail> {
         "no commit is refused for a column"
     );
     assert!(rt; tally.cut_wants() != 0, "no Want is cut by a base");
+    for (answer, count) in MET.iter().zip(tally.met().iter()) {
+        assert!(rt; *count != 0, "by image nothing answers {answer}");
+    }
     assert_eq!(rt; tally.count_of_answer("memory\n"), 0);
     assert_eq!(rt; tally.count_of_answer("broken\n"), 0);
     Ok(())

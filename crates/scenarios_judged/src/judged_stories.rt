@@ -70,6 +70,8 @@ const ASK: Event = Event::Ask { replica: 0 };
 
 const RUN: Event = Event::Run { replica: 0 };
 
+const RENEW: Event = Event::Renew { replica: 0 };
+
 const VERSION: Event = Event::Version { replica: 0 };
 
 const DUMP: Event = Event::Dump { replica: 0 };
@@ -172,6 +174,63 @@ fn events_may_be_out_of_memory(rt: HostRuntime) -> Result<(), Fail> {
     Ok(())
 }
 
+/// A replica goes by image: a run of its batch, then the frame below the base and the piece come late.
+const IMAGE: [Event; 17] = [
+    Event::Begin,
+    INSERT,
+    COMMIT,
+    FLUSH,
+    PUSH,
+    Event::Base,
+    OPEN,
+    ASK,
+    Event::Deliver {
+        index: 1,
+        node: Node::Primary,
+    },
+    Event::Deliver { index: 2, node: R0 },
+    RUN,
+    Event::Deliver {
+        index: 3,
+        node: Node::Primary,
+    },
+    Event::Deliver { index: 4, node: R0 },
+    RUN,
+    Event::Deliver { index: 0, node: R0 },
+    Event::Deliver { index: 4, node: R0 },
+    VERSION,
+];
+
+/// What the events before its second run print.
+const IMAGE_FRONT: &str = "tx 0 at 0\nok\nticket 1\ndurable 1\nsent 0 54\nbase 1 pieces 1\n\
+    opened 1\nsent 1 23\nsent 2 80\nhead 1\nwaiting piece 0\nsent 3 23\nsent 4 53\nstored\n";
+
+/// What may be printed behind that, after a report or without it, and where it is refused.
+static IMAGE_ENDS: [(bool, &str, Option<usize>); 10] = [
+    (true, "repeat\nignored\nversion 1\n", None),
+    (true, "stored\nignored\nversion 1\n", Some(14)),
+    (true, "repeat\nrepeat\nversion 1\n", Some(15)),
+    (false, "memory\nstored\nrepeat\nversion 0\n", None),
+    (false, "memory\nrepeat\nignored\nversion 1\n", None),
+    (false, "memory\nmemory\nrepeat\nversion 0\n", None),
+    (false, "memory\nstored\nignored\nversion 1\n", Some(15)),
+    (false, "memory\nrepeat\nrepeat\nversion 1\n", Some(15)),
+    (false, "memory\nrepeat\nignored\nversion 0\n", Some(16)),
+    (false, "broken\nbroken\nbroken\nversion 0\n", None),
+];
+
+/// A run by image that is out of memory leaves the replica before the image or after it: then the frames
+/// below the base are known, and the piece is of no use.
+#[test]
+fn images_may_be_out_of_memory(rt: HostRuntime) -> Result<(), Fail> {
+    for (is_answered, end, index) in IMAGE_ENDS {
+        let report = if is_answered { REPORT } else { "" };
+        let refused = refused_at(rt.alloc(), &IMAGE, &[], &[IMAGE_FRONT, report, end])?;
+        assert_eq!(rt; refused, index, "{end}");
+    }
+    Ok(())
+}
+
 /// A commit that is out of memory, and can be made again.
 const COMMITS: [Event; 5] = [Event::Begin, INSERT, COMMIT, COMMIT, FLUSH];
 
@@ -196,6 +255,14 @@ fn refused_events_can_be_tried_again(rt: HostRuntime) -> Result<(), Fail> {
 /// The primary stops, and nothing of what was pending stands.
 const STOP: Event = Event::Stop { count: 0 };
 
+/// The first datagram is delivered to the primary, and the second to the replica.
+const UP: Event = Event::Deliver {
+    index: 0,
+    node: Node::Primary,
+};
+
+const DOWN: Event = Event::Deliver { index: 1, node: R0 };
+
 /// What happened before the last event of a story.
 #[derive(Clone, Copy)]
 enum Before {
@@ -207,6 +274,8 @@ enum Before {
     Stopped,
     Opened,
     Asked,
+    Headed,
+    BaseHeaded,
 }
 
 /// The events of a story: what happened before, and the last one.
@@ -222,6 +291,21 @@ fn story_of(alloc: Global, before: Before, last: Event) -> Result<Vec<Event>, Al
         Before::Stopped => Vec::from_slice(alloc, &[STOP])?,
         Before::Opened => Vec::from_slice(alloc, &[OPEN])?,
         Before::Asked => Vec::from_slice(alloc, &[OPEN, ASK])?,
+        Before::Headed => Vec::from_slice(alloc, &[OPEN, ASK, UP, DOWN])?,
+        Before::BaseHeaded => Vec::from_slice(
+            alloc,
+            &[
+                Event::Begin,
+                INSERT,
+                COMMIT,
+                FLUSH,
+                Event::Base,
+                OPEN,
+                ASK,
+                UP,
+                DOWN,
+            ],
+        )?,
     };
     events.push(last)?;
     Ok(events)
@@ -238,12 +322,17 @@ fn printed_before(before: Before) -> &'static str {
         Before::Stopped => "stopped\n",
         Before::Opened => "opened 1\n",
         Before::Asked => "opened 1\nsent 0 23\n",
+        Before::Headed => "opened 1\nsent 0 23\nsent 1 80\nhead 0\n",
+        Before::BaseHeaded => {
+            "tx 0 at 0\nok\nticket 1\ndurable 1\nbase 1 pieces 1\nopened 1\nsent 0 23\n\
+                sent 1 80\nhead 1\n"
+        }
     }
 }
 
 /// Stories by what happened before and the last event, and whether that one may answer `memory`: an
 /// event that asks for no memory may not.
-const LAST: [(Before, Event, bool); 31] = [
+const LAST: [(Before, Event, bool); 38] = [
     (Before::Nothing, VERSION, false),
     (Before::Nothing, Event::Abort { transaction: 0 }, false),
     (Before::Begun, Event::Abort { transaction: 0 }, false),
@@ -276,6 +365,13 @@ const LAST: [(Before, Event, bool); 31] = [
     (Before::Opened, ASK, true),
     (Before::Nothing, RUN, false),
     (Before::Asked, RUN, false),
+    (Before::Headed, RUN, true),
+    (Before::BaseHeaded, RUN, true),
+    (Before::Nothing, RENEW, false),
+    (Before::Opened, RENEW, false),
+    (Before::Asked, RENEW, false),
+    (Before::Headed, RENEW, true),
+    (Before::BaseHeaded, RENEW, true),
     (Before::Nothing, DUMP, true),
     (
         Before::Nothing,

@@ -12,7 +12,7 @@ use std::test::Fail;
 use std::thread::Threads;
 
 /// What a line may be exchanged for.
-const LINES: [&str; 22] = [
+const LINES: [&str; 23] = [
     "ok\n",
     "exists\n",
     "missing\n",
@@ -32,6 +32,7 @@ const LINES: [&str; 22] = [
     "never sent\n",
     "busy\n",
     "empty\n",
+    "no head\n",
     "no batch\n",
     "waiting head\n",
     "broken\n",

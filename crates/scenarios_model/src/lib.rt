@@ -8,6 +8,7 @@ pub mod slow_bytes;
 pub mod slow_datagrams;
 pub mod slow_events;
 pub mod slow_frames;
+pub mod slow_images;
 pub mod slow_journal;
 pub mod slow_judge;
 pub mod slow_network;

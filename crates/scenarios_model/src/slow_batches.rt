@@ -1,9 +1,10 @@
 //! The slow world's batches: queries that are opened, asked for, and run.
 
-use crate::slow_datagrams::{Request, ask as ask_bytes, want};
+use crate::slow_datagrams::{Request, ask as ask_bytes, pull, want};
+use crate::slow_images::{catch_up, missing_piece};
 use crate::slow_network::send;
 use crate::slow_queries::{Query, fault_of, lines_of, push_answer};
-use crate::slow_replicas::{Batch, first_missing, put_replica, replica_of};
+use crate::slow_replicas::{Batch, Replica, first_missing, put_replica, replica_of};
 use crate::slow_rows::{Columns, columns_after, rows_after};
 use crate::slow_world::World;
 use std::alloc::{AllocError, Global};
@@ -97,7 +98,7 @@ pub fn ask(
         return text.push_str("broken\n");
     }
     match replica.batch {
-        Batch::Fetched(_, _) => return text.push_str("busy\n"),
+        Batch::Fetched(_) => return text.push_str("busy\n"),
         Batch::Asked => {}
         Batch::None => {
             if waiting_count(world, number) == 0 {
@@ -111,6 +112,17 @@ pub fn ask(
             put_replica(world, number, replica);
         }
     }
+    send_ask(world, alloc, number, &replica, text)
+}
+
+/// A replica sends the Ask of its request.
+fn send_ask(
+    world: &mut World,
+    alloc: Global,
+    number: u8,
+    replica: &Replica,
+    text: &mut String,
+) -> Result<(), AllocError> {
     let request = Request {
         replica: number,
         boot: replica.boot,
@@ -119,10 +131,32 @@ pub fn ask(
     send(&mut world.sent, ask_bytes(alloc, &request)?, text)
 }
 
+/// A replica gives up the Head of its batch, and asks anew.
+pub fn renew(
+    world: &mut World,
+    alloc: Global,
+    number: u8,
+    text: &mut String,
+) -> Result<(), AllocError> {
+    let mut replica = replica_of(world, number);
+    if replica.broken {
+        return text.push_str("broken\n");
+    }
+    match replica.batch {
+        Batch::None => return text.push_str("empty\n"),
+        Batch::Asked => return text.push_str("no head\n"),
+        Batch::Fetched(_) => {}
+    }
+    replica.request = replica.request.saturating_add(1);
+    replica.batch = Batch::Asked;
+    put_replica(world, number, replica);
+    send_ask(world, alloc, number, &replica, text)
+}
+
 /// The least worker of whom a frame is missing below these counts, and the first that is missing.
 pub fn missing(world: &World, number: u8, counts: &[u64]) -> Option<(u8, u64)> {
     for (worker, count) in (0..world.settings.workers).zip(counts.iter()) {
-        let seq = first_missing(world.known.as_slice(), number, worker);
+        let seq = first_missing(world, number, worker);
         if seq < *count {
             return Some((worker, seq));
         }
@@ -138,27 +172,32 @@ pub fn run(
     number: u8,
     text: &mut String,
 ) -> Result<(), AllocError> {
-    let mut replica = replica_of(world, number);
+    let replica = replica_of(world, number);
     if replica.broken {
         return text.push_str("broken\n");
     }
-    let (version, counts) = match replica.batch {
+    let told = match replica.batch {
         Batch::None => return text.push_str("no batch\n"),
         Batch::Asked => return text.push_str("waiting head\n"),
-        Batch::Fetched(version, counts) => (version, counts),
+        Batch::Fetched(told) => told,
     };
-    if let Some((worker, seq)) = missing(world, number, counts.as_slice()) {
+    if let Some((base, piece)) = missing_piece(world, number) {
+        write!(text, "waiting piece {piece}\n")?;
+        let bytes = pull(alloc, number, base, piece)?;
+        return send(&mut world.sent, bytes, text);
+    }
+    if let Some((worker, seq)) = missing(world, number, told.counts.as_slice()) {
         write!(text, "waiting {worker} {seq}\n")?;
         let bytes = want(alloc, number, worker, seq)?;
         return send(&mut world.sent, bytes, text);
     }
-    if version < replica.durable {
+    if told.version < replica.durable {
         return text.push_str("older than what was durable when it asked\n");
     }
-    report(world, alloc, queries, number, version, text)?;
+    report(world, alloc, queries, number, told.version, text)?;
     world.asked.retain(|item| item.0 != number);
-    replica.version = version;
-    replica.other = None;
+    catch_up(world, number, &told)?;
+    let mut replica = replica_of(world, number);
     replica.batch = Batch::None;
     put_replica(world, number, replica);
     Ok(())

@@ -6,30 +6,29 @@ use std::alloc::{AllocError, Global};
 /// How many workers there are at the most.
 pub const WORKERS: usize = 16;
 
-/// A datagram without the changes of a frame.
+/// A datagram without the changes of a frame or a piece.
 #[derive(Clone, Copy)]
 pub enum Datagram {
-    Frame {
-        worker: u8,
-        seq: u64,
-    },
+    Frame { worker: u8, seq: u64 },
     Ask(Request),
-    Head {
-        request: Request,
-        version: u64,
-        base: u64,
-        counts: [u64; WORKERS],
-    },
-    Want {
-        worker: u8,
-        from: u64,
-    },
-    /// Of an image, which nobody takes.
-    Piece,
-    Pull {
-        base: u64,
-        from: u64,
-    },
+    Head { request: Request, told: Told },
+    Want { worker: u8, from: u64 },
+    Piece { base: u64, number: u64 },
+    Pull { base: u64, from: u64 },
+}
+
+/// What a Head tells.
+#[derive(Clone, Copy)]
+pub struct Told {
+    /// How many commits are durable.
+    pub version: u64,
+    pub base: u64,
+    /// How many pieces the image at the base has.
+    pub pieces: u64,
+    /// How many frames each worker has up to the base.
+    pub lows: [u64; WORKERS],
+    /// How many it has up to the version.
+    pub counts: [u64; WORKERS],
 }
 
 /// Who asks: a replica, its start, and how often it has asked.
@@ -72,6 +71,15 @@ pub fn want(alloc: Global, replica: u8, worker: u8, from: u64) -> Result<Vec<u8>
     push_number(&mut body, u64::from(worker), 1)?;
     push_number(&mut body, from, 8)?;
     spelled(alloc, 4, body.as_slice())
+}
+
+/// A Pull.
+pub fn pull(alloc: Global, replica: u8, base: u64, from: u64) -> Result<Vec<u8>, AllocError> {
+    let mut body = Vec::new(alloc);
+    push_number(&mut body, u64::from(replica), 1)?;
+    push_number(&mut body, base, 8)?;
+    push_number(&mut body, from, 8)?;
+    spelled(alloc, 6, body.as_slice())
 }
 
 /// A number of one byte that is below 16.
@@ -137,21 +145,29 @@ fn read_head(bytes: &[u8]) -> Option<Datagram> {
     if base > version || (base == 0) != (pieces == 0) {
         return None;
     }
-    let mut counts = [0; WORKERS];
-    for (index, count) in counts.iter_mut().enumerate() {
-        let at = index.saturating_mul(16).saturating_add(48);
-        let low = number_at(bytes, at, 8).unwrap_or(0);
-        *count = number_at(bytes, at.saturating_add(8), 8).unwrap_or(0);
-        if low > *count || (base == 0 && low != 0) {
+    let told = Told {
+        version,
+        base,
+        pieces,
+        lows: numbers_from(bytes, 48),
+        counts: numbers_from(bytes, 56),
+    };
+    for (low, count) in told.lows.iter().zip(told.counts.iter()) {
+        if *low > *count || (base == 0 && *low != 0) {
             return None;
         }
     }
-    Some(Datagram::Head {
-        request,
-        version,
-        base,
-        counts,
-    })
+    Some(Datagram::Head { request, told })
+}
+
+/// The numbers that are 16 bytes apart, from an offset on; 0 where none is there.
+fn numbers_from(bytes: &[u8], from: usize) -> [u64; WORKERS] {
+    let mut numbers = [0; WORKERS];
+    for (index, number) in numbers.iter_mut().enumerate() {
+        let at = index.saturating_mul(16).saturating_add(from);
+        *number = number_at(bytes, at, 8).unwrap_or(0);
+    }
+    numbers
 }
 
 fn read_piece(bytes: &[u8]) -> Option<Datagram> {
@@ -162,7 +178,7 @@ fn read_piece(bytes: &[u8]) -> Option<Datagram> {
     let may_be_empty = number == 0 && last == 1;
     let is_good = base >= 1 && last <= 1 && (count >= 1 || may_be_empty);
     if is_good && are_changes(behind(bytes, 25), count) {
-        Some(Datagram::Piece)
+        Some(Datagram::Piece { base, number })
     } else {
         None
     }

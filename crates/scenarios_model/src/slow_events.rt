@@ -84,6 +84,9 @@ pub enum Event {
     Run {
         replica: u8,
     },
+    Renew {
+        replica: u8,
+    },
     Version {
         replica: u8,
     },

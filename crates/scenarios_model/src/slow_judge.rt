@@ -2,11 +2,12 @@
 
 use crate::slow_batches::missing;
 use crate::slow_bytes::behind;
-use crate::slow_datagrams::{Datagram, read};
+use crate::slow_datagrams::{Datagram, Told, read};
 use crate::slow_events::{Event, Node, Script};
 use crate::slow_frames::count_of;
+use crate::slow_images::{by_image, catch_up, low_of, missing_piece};
 use crate::slow_replicas::{Batch, put_replica, replica_of};
-use crate::slow_tally::Tally;
+use crate::slow_tally::{Met, Tally};
 use crate::slow_transactions::meets_row;
 use crate::slow_world::{World, step};
 use std::alloc::{AllocError, Global};
@@ -22,10 +23,12 @@ pub fn judge(
     let mut world = World::new(alloc, script.settings)?;
     let mut rest = printed;
     for (index, event) in script.events.iter().enumerate() {
+        let met = met_by(&world, event);
         match judge_event(&mut world, alloc, script, event, rest)? {
             None => return Ok(Some(index)),
             Some(len) => {
                 tally.add(event, rest);
+                tally.add_met(met, rest);
                 if is_refused_by_column(&world, event, rest) {
                     tally.add_column_conflict();
                 }
@@ -41,6 +44,35 @@ pub fn judge(
         Ok(None)
     } else {
         Ok(Some(script.events.len()))
+    }
+}
+
+/// What an event meets at a replica that goes by image.
+fn met_by(world: &World, event: &Event) -> Met {
+    match event {
+        Event::Run { replica } if by_image(&replica_of(world, *replica)).is_some() => Met::Run,
+        Event::Deliver {
+            index,
+            node: Node::Replica(number),
+        } => match world.sent.get(*index as usize) {
+            None => Met::Nothing,
+            Some(bytes) => delivered_to(world, *number, read(bytes.as_slice())),
+        },
+        _ => Met::Nothing,
+    }
+}
+
+/// What a datagram is for a replica that goes by image.
+fn delivered_to(world: &World, number: u8, datagram: Option<Datagram>) -> Met {
+    let replica = replica_of(world, number);
+    let Some(told) = by_image(&replica) else {
+        return Met::Nothing;
+    };
+    match datagram {
+        Some(Datagram::Piece { base, .. }) if base == told.base => Met::Piece,
+        Some(Datagram::Piece { .. }) => Met::OtherPiece,
+        Some(Datagram::Frame { worker, seq }) if seq < low_of(&replica, worker) => Met::LowFrame,
+        _ => Met::Nothing,
     }
 }
 
@@ -97,33 +129,71 @@ fn judge_event(
     if printed.starts_with(b"broken\n") && breaks(world, event) {
         return Ok(Some(7));
     }
+    match elsewhere(world, event) {
+        None => answered(world, alloc, script, event, printed),
+        Some((number, told)) => {
+            judge_either(world, alloc, script, event, printed, number, &told)
+        }
+    }
+}
+
+/// Lets an event happen: of how many bytes its lines are; none where others are printed.
+fn answered(
+    world: &mut World,
+    alloc: Global,
+    script: &Script,
+    event: &Event,
+    printed: &[u8],
+) -> Result<Option<usize>, AllocError> {
     let mut lines = String::new(alloc);
     step(world, alloc, script, event, &mut lines)?;
     if printed.starts_with(lines.as_bytes()) {
-        return Ok(Some(lines.len()));
-    }
-    if !stands_elsewhere(world, event) {
-        return Ok(None);
-    }
-    let mut others = String::new(alloc);
-    step(world, alloc, script, event, &mut others)?;
-    if printed.starts_with(others.as_bytes()) {
-        Ok(Some(others.len()))
+        Ok(Some(lines.len()))
     } else {
         Ok(None)
     }
 }
 
-/// The version that a replica fetched, where it has all frames up to it.
-fn ready_version(world: &World, number: u8) -> Option<u64> {
-    let replica = replica_of(world, number);
-    match replica.batch {
-        Batch::Fetched(version, counts)
-            if !replica.broken && missing(world, number, counts.as_slice()).is_none() => {
-            Some(version)
-        }
-        _ => None,
+/// Judges what an event of a replica answers that may have caught up with what a Head told, or not. If
+/// what is printed shows which, the world is that one from now on.
+fn judge_either(
+    world: &mut World,
+    alloc: Global,
+    script: &Script,
+    event: &Event,
+    printed: &[u8],
+    number: u8,
+    told: &Told,
+) -> Result<Option<usize>, AllocError> {
+    let mut other = world.clone()?;
+    catch_up(&mut other, number, told)?;
+    let there = answered(&mut other, alloc, script, event, printed)?;
+    let here = answered(world, alloc, script, event, printed)?;
+    if here.is_none() {
+        *world = other;
+        return Ok(there);
     }
+    if there.is_none() {
+        let mut replica = replica_of(world, number);
+        replica.other = None;
+        put_replica(world, number, replica);
+    }
+    Ok(here)
+}
+
+/// What a replica's Head told, where the replica lacks nothing of it.
+fn ready(world: &World, number: u8) -> Option<Told> {
+    let replica = replica_of(world, number);
+    let Batch::Fetched(told) = replica.batch else {
+        return None;
+    };
+    if replica.broken || missing_piece(world, number).is_some() {
+        return None;
+    }
+    if missing(world, number, told.counts.as_slice()).is_some() {
+        return None;
+    }
+    Some(told)
 }
 
 /// Whether an event asks for memory, by what it would answer with ample memory.
@@ -153,7 +223,9 @@ fn takes_memory(world: &World, event: &Event, lines: &[u8]) -> bool {
         Event::Base => lines.starts_with(b"base ") && world.base < world.durable,
         Event::Stop { .. } => !world.stopped,
         Event::Start => lines.starts_with(b"durable "),
-        Event::Push { .. } | Event::Ask { .. } => lines.starts_with(b"sent "),
+        Event::Push { .. } | Event::Ask { .. } | Event::Renew { .. } => {
+            lines.starts_with(b"sent ")
+        }
         Event::Deliver { .. } | Event::Raw { .. } => {
             lines.starts_with(b"sent ") || lines == b"stored\n".as_slice()
         }
@@ -172,9 +244,9 @@ fn takes_memory(world: &World, event: &Event, lines: &[u8]) -> bool {
 /// the version that it fetched.
 fn refuse_memory(world: &mut World, event: &Event) {
     if let Event::Run { replica: number } = event {
-        if let Some(version) = ready_version(world, *number) {
+        if let Some(told) = ready(world, *number) {
             let mut replica = replica_of(world, *number);
-            replica.other = Some(version);
+            replica.other = Some(told);
             put_replica(world, *number, replica);
         }
     }
@@ -185,7 +257,7 @@ fn breaks(world: &mut World, event: &Event) -> bool {
     let Event::Run { replica: number } = event else {
         return false;
     };
-    if ready_version(world, *number).is_none() {
+    if ready(world, *number).is_none() {
         return false;
     }
     let mut replica = replica_of(world, *number);
@@ -194,21 +266,19 @@ fn breaks(world: &mut World, event: &Event) -> bool {
     true
 }
 
-/// Whether an event tells at which version its replica stands, and this may be another one; from
-/// now on it is that one then. A query is opened against the columns there.
-fn stands_elsewhere(world: &mut World, event: &Event) -> bool {
+/// The replica of an event, and with what it may have caught up, where a run of it was out of memory.
+fn elsewhere(world: &World, event: &Event) -> Option<(u8, Told)> {
     let number = match event {
-        Event::Version { replica } | Event::Dump { replica } | Event::Open { replica, .. } => {
-            *replica
-        }
-        _ => return false,
+        Event::Open { replica, .. }
+        | Event::Run { replica }
+        | Event::Version { replica }
+        | Event::Dump { replica } => *replica,
+        Event::Deliver { node, .. } | Event::Raw { node, .. } => match node {
+            Node::Primary => return None,
+            Node::Replica(number) => *number,
+        },
+        _ => return None,
     };
-    let mut replica = replica_of(world, number);
-    let Some(version) = replica.other else {
-        return false;
-    };
-    replica.version = version;
-    replica.other = None;
-    put_replica(world, number, replica);
-    true
+    let told = replica_of(world, number).other?;
+    Some((number, told))
 }

@@ -1,13 +1,14 @@
 //! The slow world's replicas: the frames that they know, and the tables at their versions.
 
-use crate::slow_datagrams::{Datagram, Request, WORKERS};
+use crate::slow_datagrams::{Datagram, Request, Told};
+use crate::slow_images::{low_of, receive_piece, take_pieces};
 use crate::slow_rows::{Row, first, rows_after};
 use crate::slow_text::{name_of, push_value};
 use crate::slow_world::World;
 use std::alloc::{AllocError, Global};
 
-/// How far ahead of the first frame that is missing a frame is kept.
-const WINDOW: u64 = 4096;
+/// How far ahead of the first frame or piece that is missing one is kept.
+pub const WINDOW: u64 = 4096;
 
 /// What a replica does with its batch.
 #[derive(Clone, Copy)]
@@ -16,8 +17,8 @@ pub enum Batch {
     None,
     /// It asked for the newest version.
     Asked,
-    /// It knows the version, and how many frames each worker has up to it.
-    Fetched(u64, [u64; WORKERS]),
+    /// It took the Head that tells this.
+    Fetched(Told),
 }
 
 /// A replica, without its lists.
@@ -27,8 +28,10 @@ pub struct Replica {
     /// How often it has asked.
     pub request: u64,
     pub version: u64,
-    /// The other version that it may stand at, where a run was out of memory.
-    pub other: Option<u64>,
+    /// What it may have caught up with, where a run was out of memory.
+    pub other: Option<Told>,
+    /// Of which base it knows pieces.
+    pub pieces_base: u64,
     pub batch: Batch,
     /// How many commits were durable when its batch was made.
     pub durable: u64,
@@ -43,6 +46,7 @@ impl Replica {
             request: 0,
             version: 0,
             other: None,
+            pieces_base: 0,
             batch: Batch::None,
             durable: 0,
             broken: false,
@@ -75,9 +79,10 @@ fn is_known(known: &[(u8, u8, u64)], wanted: (u8, u8, u64)) -> bool {
     false
 }
 
-/// The first frame of a worker that a replica does not know.
-pub fn first_missing(known: &[(u8, u8, u64)], replica: u8, worker: u8) -> u64 {
-    let mut seq: u64 = 0;
+/// The first frame of a worker that a replica needs and does not know.
+pub fn first_missing(world: &World, replica: u8, worker: u8) -> u64 {
+    let known = world.known.as_slice();
+    let mut seq: u64 = low_of(&replica_of(world, replica), worker);
     for _ in known {
         if !is_known(known, (replica, worker, seq)) {
             return seq;
@@ -85,6 +90,21 @@ pub fn first_missing(known: &[(u8, u8, u64)], replica: u8, worker: u8) -> u64 {
         seq = seq.saturating_add(1);
     }
     seq
+}
+
+/// From now on a replica knows the frames of a worker up to that count.
+pub fn know_below(
+    known: &mut Vec<(u8, u8, u64)>,
+    replica: u8,
+    worker: u8,
+    count: u64,
+) -> Result<(), AllocError> {
+    for seq in 0..count {
+        if !is_known(known.as_slice(), (replica, worker, seq)) {
+            known.push((replica, worker, seq))?;
+        }
+    }
+    Ok(())
 }
 
 /// A replica receives a datagram, or bytes that are none.
@@ -99,39 +119,31 @@ pub fn receive(
     }
     match datagram {
         Some(Datagram::Frame { worker, seq }) if worker < world.settings.workers => {
-            text.push_str(receive_frame(&mut world.known, (number, worker, seq))?)
+            text.push_str(receive_frame(world, (number, worker, seq))?)
         }
         Some(
-            Datagram::Head {
-                request,
-                version,
+            Datagram::Piece {
                 base,
-                counts,
+                number: piece,
             },
-        ) if base <= replica_of(world, number).version => receive_head(
-            world,
-            number,
-            &request,
-            Batch::Fetched(version, counts),
-            text,
-        ),
+        ) => text.push_str(receive_piece(world, number, base, piece)?),
+        Some(Datagram::Head { request, told }) => {
+            receive_head(world, number, &request, &told, text)
+        }
         _ => text.push_str("ignored\n"),
     }
 }
 
 /// A replica takes a frame; answers what is printed.
-fn receive_frame(
-    known: &mut Vec<(u8, u8, u64)>,
-    frame: (u8, u8, u64),
-) -> Result<&'static str, AllocError> {
-    if is_known(known.as_slice(), frame) {
+fn receive_frame(world: &mut World, frame: (u8, u8, u64)) -> Result<&'static str, AllocError> {
+    if is_known(world.known.as_slice(), frame) {
         return Ok("repeat\n");
     }
-    let first = first_missing(known.as_slice(), frame.0, frame.1);
+    let first = first_missing(world, frame.0, frame.1);
     if frame.2 == u64::MAX || frame.2 >= first.saturating_add(WINDOW) {
         return Ok("ahead\n");
     }
-    known.push(frame)?;
+    world.known.push(frame)?;
     Ok("stored\n")
 }
 
@@ -140,21 +152,20 @@ fn receive_head(
     world: &mut World,
     number: u8,
     request: &Request,
-    fetched: Batch,
+    told: &Told,
     text: &mut String,
 ) -> Result<(), AllocError> {
     let mut replica = replica_of(world, number);
     let is_own = request.replica == number
         && request.boot == replica.boot
         && request.request == replica.request;
-    let Batch::Fetched(version, _) = fetched else {
-        return Ok(());
-    };
     if !is_own || !matches!(replica.batch, Batch::Asked) {
         return text.push_str("ignored\n");
     }
-    replica.batch = fetched;
+    replica.batch = Batch::Fetched(*told);
     put_replica(world, number, replica);
+    take_pieces(world, number, told);
+    let version = told.version;
     write!(text, "head {version}\n")
 }
 
@@ -172,6 +183,7 @@ pub fn restart(
     }
     world.boots.push((number, boot))?;
     world.known.retain(|item| item.0 != number);
+    world.pieces.retain(|item| item.0 != number);
     world.waiting.retain(|item| item.0 != number);
     world.asked.retain(|item| item.0 != number);
     put_replica(world, number, Replica::new(boot));

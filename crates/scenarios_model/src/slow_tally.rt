@@ -5,7 +5,7 @@ use crate::slow_events::{Event, Node};
 use std::alloc::{AllocError, Global};
 
 /// Kinds of events, by the words with which they begin.
-pub const KINDS: [&str; 24] = [
+pub const KINDS: [&str; 25] = [
     "begin",
     "insert",
     "set",
@@ -30,10 +30,11 @@ pub const KINDS: [&str; 24] = [
     "raw r",
     "column",
     "base",
+    "renew",
 ];
 
 /// Kinds of answers, by what they begin with; where two fit, the first is meant.
-pub const ANSWERS: [&str; 42] = [
+pub const ANSWERS: [&str; 46] = [
     "tx ",
     "ok\n",
     "exists\n",
@@ -62,13 +63,17 @@ pub const ANSWERS: [&str; 42] = [
     "42440302",
     "42440303",
     "42440304",
+    "42440305",
+    "42440306",
     "opened ",
     "batch full\n",
     "bad plan ",
     "busy\n",
     "empty\n",
+    "no head\n",
     "no batch\n",
     "waiting head\n",
+    "waiting piece ",
     "waiting ",
     "version ",
     "boot used\n",
@@ -111,8 +116,27 @@ fn kind_of(event: &Event) -> usize {
         Event::Raw { .. } => 21,
         Event::AddColumn { .. } => 22,
         Event::Base => 23,
+        Event::Renew { .. } => 24,
     }
 }
+
+/// What an event meets at a replica that goes by image.
+#[derive(Clone, Copy)]
+pub enum Met {
+    /// Nothing of that.
+    Nothing,
+    /// A run of its batch.
+    Run,
+    /// A piece of the image.
+    Piece,
+    /// A piece of another one.
+    OtherPiece,
+    /// A frame below its base count.
+    LowFrame,
+}
+
+/// The answers that are counted where an event met one of these.
+pub const MET: [&str; 4] = ["version ", "repeat\n", "ignored\n", "stored\n"];
 
 /// How often each kind of event gave each kind of answer.
 #[derive(Drop)]
@@ -124,6 +148,8 @@ pub struct Tally {
     column_conflicts: u64,
     /// How many Wants were answered without the first frames that they want, which are not kept.
     cut_wants: u64,
+    /// How often replicas that go by image answered each of these.
+    met: [u64; MET.len()],
 }
 
 impl Tally {
@@ -134,6 +160,7 @@ impl Tally {
             long_commits: 0,
             column_conflicts: 0,
             cut_wants: 0,
+            met: [0; MET.len()],
         })
     }
 
@@ -160,6 +187,25 @@ impl Tally {
         self.cut_wants = self.cut_wants.saturating_add(1);
     }
 
+    /// Counts what an event met that gave these lines.
+    pub fn add_met(&mut self, met: Met, lines: &[u8]) {
+        let index = match met {
+            Met::Nothing => return,
+            Met::Run => 0,
+            Met::Piece => 1,
+            Met::OtherPiece => 2,
+            Met::LowFrame => 3,
+        };
+        let Some(answer) = MET.get(index) else {
+            return;
+        };
+        if lines.starts_with(answer.as_bytes()) {
+            if let Some(count) = self.met.get_mut(index) {
+                *count = count.saturating_add(1);
+            }
+        }
+    }
+
     /// Counts the frames among these datagrams that do not end their commit.
     pub fn add_sent(&mut self, sent: &[Vec<u8>]) {
         for bytes in sent {
@@ -184,6 +230,12 @@ impl Tally {
     /// How many Wants were answered without the first frames that they want, which are not kept.
     pub fn cut_wants(&self) -> u64 {
         self.cut_wants
+    }
+
+    /// How many reports came of an image, how many of its pieces came twice, how many pieces of another
+    /// image were ignored, and how many frames below a base count were stored.
+    pub fn met(&self) -> &[u64] {
+        &self.met
     }
 
     /// How often events of that kind gave answers of that kind, which is one of the lists above.

@@ -243,6 +243,7 @@ fn push_replica_words(text: &mut String, script: &Script, event: &Event) -> Resu
         }
         Event::Ask { replica } => write!(text, "ask {replica}"),
         Event::Run { replica } => write!(text, "run {replica}"),
+        Event::Renew { replica } => write!(text, "renew {replica}"),
         Event::Version { replica } => write!(text, "version {replica}"),
         Event::Dump { replica } => write!(text, "dump {replica}"),
         Event::Restart { replica, boot } => write!(text, "restart {replica} {boot}"),

@@ -2,7 +2,7 @@
 //! with the cores. Each question is answered by walking the lists anew.
 
 use crate::slow_bases::take_base;
-use crate::slow_batches::{ask, open, run};
+use crate::slow_batches::{ask, open, renew, run};
 use crate::slow_events::{Event, Node, Script};
 use crate::slow_journal::kept_at_stop;
 use crate::slow_network::{deliver, deliver_bytes, push, show};
@@ -37,6 +37,8 @@ pub struct World {
     pub replicas: Vec<Replica>,
     /// The frames that replicas know: replica, worker and seq.
     pub known: Vec<(u8, u8, u64)>,
+    /// The pieces that replicas know: replica and number.
+    pub pieces: Vec<(u8, u64)>,
     /// The queries that wait for a batch, each with its replica.
     pub waiting: Vec<(u8, usize)>,
     /// The queries of batches, each with its replica.
@@ -60,6 +62,7 @@ impl World {
             sent: Vec::new(alloc),
             replicas: Vec::new(alloc),
             known: Vec::new(alloc),
+            pieces: Vec::new(alloc),
             waiting: Vec::new(alloc),
             asked: Vec::new(alloc),
             boots: Vec::new(alloc),
@@ -149,6 +152,7 @@ fn step_replica(
         },
         Event::Ask { replica } => ask(world, alloc, *replica, text),
         Event::Run { replica } => run(world, alloc, script.queries.as_slice(), *replica, text),
+        Event::Renew { replica } => renew(world, alloc, *replica, text),
         Event::Version { replica } => version(world, *replica, text),
         Event::Dump { replica } => dump(world, alloc, *replica, text),
         Event::Restart { replica, boot } => restart(world, *replica, *boot, text),

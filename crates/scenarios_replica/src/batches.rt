@@ -55,15 +55,26 @@ const SECOND_HEAD_OF_BASE: [u8; 80] = [
     0x00, 0x00, 0x00, 0x00, 0x00, 0x00, 0x00, 0x00, 0x00, 0x00, 0x00, 0x00, 0x00, 0x00, 0x00, 0x01,
 ];
 
-/// A Head whose base is above the replica's version is ignored, and so are a Piece and a Pull. A Head
-/// whose base is that version is taken.
-const BASES: [Step<'static>; 13] = [
+/// By a Head whose base is above the replica's version it goes by image. A Pull is not for replicas.
+const ABOVE: [Step<'static>; 12] = [
     Step::Open(0, 1),
     Step::Ask,
-    Step::Get(&HEAD_OF_BASE, Got::Ignored),
     Step::Get(&PIECE, Got::Ignored),
+    Step::Get(&HEAD_OF_BASE, Got::Head(2)),
     Step::Get(&PULL, Got::Ignored),
-    Step::Run(Ran::WaitingHead),
+    Step::Get(&HEAD_OF_BASE, Got::Ignored),
+    Step::Run(Ran::WaitingPiece(1, 0)),
+    Step::Get(&PIECE, Got::Stored),
+    Step::Run(Ran::Waiting(1, 0)),
+    Step::RenewOf(2),
+    Step::Get(&SECOND_HEAD_OF_BASE, Got::Head(2)),
+    Step::Run(Ran::Waiting(1, 0)),
+];
+
+/// By one whose base is that version it does not.
+const AT_VERSION: [Step<'static>; 9] = [
+    Step::Open(0, 1),
+    Step::Ask,
     Step::GetHead(1, 1, [1, 0], Got::Head(1)),
     Step::Get(&FRAME, Got::Stored),
     Step::Run(Ran::Answered(ONE_ROW)),
@@ -131,10 +142,11 @@ const MANY: [Step<'static>; 2] = [
     Step::OpenRefused(0, OpenFault::BatchFull),
 ];
 
-static STORIES: [Story; 9] = [
+static STORIES: [Story; 10] = [
     (1, &NUMBERS, &REPEATED_ASK),
     (1, &NUMBERS, &HEADS),
-    (2, &NUMBERS, &BASES),
+    (2, &NUMBERS, &ABOVE),
+    (2, &NUMBERS, &AT_VERSION),
     (1, &NUMBERS, &ANSWERED),
     (1, &WITH_BYTES, &COUNTED),
     (1, &NUMBERS, &NO_LIST),
@@ -155,7 +167,7 @@ const RUN_TWICE: [Step<'static>; 5] = [
     Step::Ask,
     Step::Get(&HEAD, Got::Head(1)),
     Step::Get(&FRAME, Got::Stored),
-    Step::RunTwice(ONE_ROW),
+    Step::RunTwice(1, ONE_ROW),
 ];
 
 /// Whichever allocation is refused: a run that is out of memory can be run again, or breaks the

@@ -1,4 +1,4 @@
-//! Scenarios of `dispatcher`, by its public calls: frames, batches, hostile bytes, the text of the tables.
+//! Scenarios of `dispatcher`, by its public calls: frames, images, batches, hostile bytes, the text of the tables.
 #![tactic(auto)]
 
 #[cfg(test)]
@@ -9,6 +9,10 @@ mod dumps;
 mod frames;
 #[cfg(test)]
 mod hostile_bytes;
+#[cfg(test)]
+mod image_ends;
+#[cfg(test)]
+mod images;
 #[cfg(test)]
 mod opened_plans;
 #[cfg(test)]

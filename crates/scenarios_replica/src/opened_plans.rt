@@ -111,7 +111,10 @@ const RUN_TWICE: [Step<'static>; 6] = [
     Step::Ask,
     Step::Get(&HEAD, Got::Head(1)),
     Step::Get(&FRAME, Got::Stored),
-    Step::RunTwice(b"version 1 queries 2\nquery 0 rows 1\n5 1 -1 -1\nquery 1 rows 1\n1\n"),
+    Step::RunTwice(
+        1,
+        b"version 1 queries 2\nquery 0 rows 1\n5 1 -1 -1\nquery 1 rows 1\n1\n",
+    ),
 ];
 
 /// Whichever request for memory is refused: a run that groups can be run again, or breaks the
@@ -144,7 +147,10 @@ const RUN_WITH_COLUMN_TWICE: [Step<'static>; 6] = [
     Step::Ask,
     Step::Get(&HEAD, Got::Head(1)),
     Step::Get(&ADDED, Got::Stored),
-    Step::RunTwice(b"version 1 queries 2\nquery 0 rows 1\n5 1 -1 -1\nquery 1 rows 1\n1\n"),
+    Step::RunTwice(
+        1,
+        b"version 1 queries 2\nquery 0 rows 1\n5 1 -1 -1\nquery 1 rows 1\n1\n",
+    ),
 ];
 
 /// Whichever request for memory is refused: a run that brings a column can be run again, or breaks the

@@ -5,7 +5,8 @@ use queries::PlanFault;
 use rows::Schema;
 use scenarios_common::wanted::Table;
 use scenarios_common::worker_datagrams::{
-    FRAME, HEAD, Insert, ask_of, changed, frame_at, frame_of, head_of, want_of,
+    Based, FRAME, HEAD, Insert, Row, ask_of, changed, frame_at, frame_of, head_of, head_of_base,
+    piece_of, pull_of, want_of,
 };
 use scenarios_plans_common::wishes::{COUNT, Wish, plan_of};
 use std::alloc::{AllocError, Global};
@@ -36,6 +37,10 @@ pub enum Step<'a> {
     AskOf(u64),
     /// It asks for none.
     AskRefused(AskFault),
+    /// It gives up its version, and asks by the request of this number.
+    RenewOf(u64),
+    /// It gives up none.
+    RenewRefused(AskFault),
     /// These bytes come.
     Get(&'a [u8], Got),
     /// Frame 0 comes as the frame of another seq.
@@ -48,10 +53,14 @@ pub enum Step<'a> {
     GetInsert(Insert, Got),
     /// The Head of a request comes, at a version, of two workers with these counts.
     GetHead(u64, u64, [u64; 2], Got),
+    /// The Head of a request comes, at a version, with a base, of two workers with these counts.
+    GetBase(u64, u64, Based, [u64; 2], Got),
+    /// The piece of a base with this number comes, which has a row.
+    GetPiece(u64, u64, Row, Got),
     /// The batch is run.
     Run(Ran<'a>),
-    /// The batch is run twice, as refused memory leaves it: with this report once.
-    RunTwice(&'a [u8]),
+    /// The batch is run twice, as refused memory leaves it: with this report once, at a version.
+    RunTwice(u64, &'a [u8]),
     /// A batch of so many queries that count rows is run at version 0, where there are none.
     RunAll(usize),
     /// It is asked for the number of its newest request.
@@ -69,6 +78,8 @@ pub enum Step<'a> {
 pub enum Ran<'a> {
     NoBatch,
     WaitingHead,
+    /// The piece of this base with this number is missing, and a Pull of it is on the way.
+    WaitingPiece(u64, u64),
     /// The frame of this worker with this seq is missing, and a Want of it is on the way.
     Waiting(u8, u64),
     /// This is the report.
@@ -150,6 +161,8 @@ fn is_answered<R: Threads + Sync>(
         Step::Ask => asks(replica, 1),
         Step::AskOf(request) => asks(replica, *request),
         Step::AskRefused(fault) => is_ask_refused(replica, *fault),
+        Step::RenewOf(request) => renews(replica, *request),
+        Step::RenewRefused(fault) => is_renew_refused(replica, *fault),
         Step::Get(bytes, answer) => gets(replica, bytes, *answer),
         Step::GetFrameAt(seq, answer) => gets(replica, &frame_at(*seq), *answer),
         Step::GetFrameWith(index, byte, answer) => {
@@ -162,8 +175,16 @@ fn is_answered<R: Threads + Sync>(
         Step::GetHead(request, version, counts, answer) => {
             gets(replica, &head_of(*request, *version, *counts), *answer)
         }
+        Step::GetBase(request, version, based, counts, answer) => gets(
+            replica,
+            &head_of_base(*request, *version, *based, *counts),
+            *answer,
+        ),
+        Step::GetPiece(base, number, row, answer) => {
+            gets(replica, &piece_of(*base, *number, *row), *answer)
+        }
         Step::Run(ran) => runs(rt, replica, ran),
-        Step::RunTwice(report) => runs_twice(rt, replica, report),
+        Step::RunTwice(version, report) => runs_twice(rt, replica, *version, report),
         Step::RunAll(count) => runs_all(rt, alloc, replica, *count),
         Step::Request(number) => replica.request() == *number,
         Step::Version(number) => replica.version() == *number,
@@ -252,11 +273,34 @@ fn is_ask_refused(replica: &mut ReplicaCore<PlainStore>, fault: AskFault) -> boo
     }
 }
 
+/// Whether it gives up its version, and sends the Ask of that request.
+fn renews(replica: &mut ReplicaCore<PlainStore>, request: u64) -> bool {
+    if replica.request() > 9 {
+        return false;
+    }
+    match replica.renew() {
+        Ok(out) => is_to_primary(&out, &ask_of(request)),
+        Err(_) => false,
+    }
+}
+
+/// Whether it gives up no version for this reason.
+fn is_renew_refused(replica: &mut ReplicaCore<PlainStore>, fault: AskFault) -> bool {
+    if replica.request() > 9 {
+        return false;
+    }
+    match replica.renew() {
+        Ok(_) => false,
+        Err(found) => found == fault,
+    }
+}
+
 /// Whether this becomes of a run.
 fn runs<R: Threads + Sync>(rt: &R, replica: &mut ReplicaCore<PlainStore>, ran: &Ran<'_>) -> bool {
     match replica.run(rt) {
         Run::NoBatch => matches!(ran, Ran::NoBatch),
         Run::WaitingHead => matches!(ran, Ran::WaitingHead),
+        Run::WaitingPiece { number, pull } => is_waiting_for_piece(ran, number, &pull),
         Run::Waiting { worker, seq, want } => is_waiting(ran, worker, seq, &want),
         Run::Answered(text) => is_report(ran, text.as_slice()),
         Run::Inconsistent => matches!(ran, Ran::Inconsistent),
@@ -275,6 +319,16 @@ fn is_waiting(ran: &Ran<'_>, worker: u8, seq: u64, want: &Out) -> bool {
     }
 }
 
+/// Whether that piece is to be missing, and this is the Pull of it.
+fn is_waiting_for_piece(ran: &Ran<'_>, number: u64, pull: &Out) -> bool {
+    match ran {
+        Ran::WaitingPiece(base, first) => {
+            number == *first && is_to_primary(pull, &pull_of(0, *base, number))
+        }
+        _ => false,
+    }
+}
+
 /// Whether this is to be the report.
 fn is_report(ran: &Ran<'_>, text: &[u8]) -> bool {
     match ran {
@@ -283,18 +337,20 @@ fn is_report(ran: &Ran<'_>, text: &[u8]) -> bool {
     }
 }
 
-/// Whether the batch is answered with this report and is then none; or stands where memory is
-/// refused, and is answered when it is run again; or the replica breaks and stays at its version.
+/// Whether the batch is answered with this report and is then none, at this version; or stands where
+/// memory is refused, and is answered when it is run again; or the replica breaks and stays at its
+/// version.
 fn runs_twice<R: Threads + Sync>(
     rt: &R,
     replica: &mut ReplicaCore<PlainStore>,
+    version: u64,
     report: &[u8],
 ) -> bool {
     match replica.run(rt) {
         Run::Answered(text) if text.as_slice() == report => {
-            runs(rt, replica, &Ran::NoBatch) && replica.version() == 1
+            runs(rt, replica, &Ran::NoBatch) && replica.version() == version
         }
-        Run::Memory => runs(rt, replica, &Ran::Answered(report)) && replica.version() == 1,
+        Run::Memory => runs(rt, replica, &Ran::Answered(report)) && replica.version() == version,
         Run::Broken => runs(rt, replica, &Ran::Broken) && replica.version() == 0,
         _ => false,
     }

@@ -288,7 +288,7 @@ const RUN_TWICE: [Step<'static>; 6] = [
     Step::GetHead(1, 1, [0, 2], Got::Head(1)),
     Step::GetInsert(LAST, Got::Stored),
     Step::GetInsert(FRONT, Got::Stored),
-    Step::RunTwice(TWO_ROWS_AT_1),
+    Step::RunTwice(1, TWO_ROWS_AT_1),
 ];
 
 /// Whichever request for memory is refused: a run that joins and merges frames can be run again, or

@@ -1,4 +1,4 @@
-//! Jobs that read, and looks between them.
+//! Jobs that read, and looks and bases between them.
 
 use crate::readers::jobs_of;
 use requests::Dialect;
@@ -13,12 +13,12 @@ const CHANGES_READ: &str =
     "3: job 1\n4: insert 0 7 5 -1\n6: set 0 7 1 6\n8: delete 0 8\n9: column 0 9\n\
     11: job 0\n12: insert 1 1 x4e45\nend\n";
 
-/// Jobs with conditions, and looks between them; the last line has no end.
+/// Jobs with conditions, and looks and a base between them; the last line has no end.
 const LIVE: &[u8] = b"get acct 7 0\njob 0\nexpect acct 7 0 5\nset acct 7 0 4\nabsent site 2\nend\n\
-    get site 18446744073709551615 255\njob 1\nend";
+    get site 18446744073709551615 255\nbase\njob 1\nend";
 
 const LIVE_READ: &str = "1: get 0 7 0\n2: job 0\n3: expect 0 7 0 5\n4: set 0 7 0 4\n5: absent 1 2\n\
-    7: get 1 18446744073709551615 255\n8: job 1\nend\n";
+    7: get 1 18446744073709551615 255\n8: base\n9: job 1\nend\n";
 
 #[test]
 fn jobs_have_the_changes_of_their_lines(rt: HostRuntime) -> Result<(), Fail> {
@@ -30,7 +30,7 @@ fn jobs_have_the_changes_of_their_lines(rt: HostRuntime) -> Result<(), Fail> {
 }
 
 #[test]
-fn live_jobs_have_conditions_and_looks_between_them(rt: HostRuntime) -> Result<(), Fail> {
+fn live_jobs_have_conditions_and_looks_and_bases_between_them(rt: HostRuntime) -> Result<(), Fail> {
     let read = jobs_of(rt.alloc(), Dialect::Live, LIVE)?;
     assert_eq!(rt; read.as_str(), LIVE_READ);
     Ok(())

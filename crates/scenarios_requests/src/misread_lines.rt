@@ -124,10 +124,15 @@ const OF_JOBS: [Case; 34] = [
 ];
 
 /// Lines that one dialect has.
-const OF_CHANGES: [Case; 3] = [
+const OF_CHANGES: [Case; 5] = [
     (
         "get acct 1 0",
         "line 1: no line of a job: 'get': with --live only",
+    ),
+    ("base", "line 1: no line of a job: 'base': with --live only"),
+    (
+        "base 1",
+        "line 1: no line of a job: 'base': with --live only",
     ),
     (
         "job 0\nexpect acct 1 0 5",
@@ -139,7 +144,7 @@ const OF_CHANGES: [Case; 3] = [
     ),
 ];
 
-const OF_LIVE: [Case; 6] = [
+const OF_LIVE: [Case; 9] = [
     (
         "get acct 1",
         "line 1: bad words: '1': a word is missing after it",
@@ -161,6 +166,12 @@ const OF_LIVE: [Case; 6] = [
         "job 0\nget acct 1 0",
         "line 2: a line that stands in the wrong place: 'get': inside a job",
     ),
+    ("base 1", "line 1: no line of a job: '1': a word too many"),
+    (
+        "job 0\nbase",
+        "line 2: a line that stands in the wrong place: 'base': inside a job",
+    ),
+    ("bases", "line 1: no line of a job: 'bases': begins no line"),
 ];
 
 /// Lines of batches that are no plan.

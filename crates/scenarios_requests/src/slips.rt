@@ -115,7 +115,7 @@ const WITHOUT_END: [Case; 12] = [
 ];
 
 /// Faults in the dialect of live jobs.
-const OF_LIVE: [Case; 7] = [
+const OF_LIVE: [Case; 9] = [
     (
         "get acct 1\nget acct 1 0\n",
         "line 1: bad words (line)\n2: get 0 1 0\nend\n",
@@ -137,6 +137,14 @@ const OF_LIVE: [Case; 7] = [
     (
         "job 0\nget acct 1 0\nget acct 1 0\njob 1\nend\nget acct 1 0\n",
         "line 2: a line that stands in the wrong place (job)\n4: job 1\n6: get 0 1 0\nend\n",
+    ),
+    (
+        "base 1\nbase \nbase\n",
+        "line 1: no line of a job (line)\nline 2: no line of a job (line)\n3: base\nend\n",
+    ),
+    (
+        "job 0\nbase\nbase\nend\nbase\n",
+        "line 2: a line that stands in the wrong place (job)\n5: base\nend\n",
     ),
 ];
 

@@ -98,6 +98,7 @@ fn write_request(text: &mut String, request: &Request) -> Result<(), AllocError>
             column,
             line,
         } => write!(text, "{line}: get {table} {} {column}\n", row.0),
+        Request::Base { line } => write!(text, "{line}: base\n"),
     }
 }
 

@@ -2,7 +2,7 @@
 //! themselves.
 
 use rows::{ByteList, Kind};
-use script::write_text_of;
+use script::{Sent, write_text_of};
 use std::alloc::Global;
 use std::test::Fail;
 use world::{Output, Reason, ScriptFault, read_settings};
@@ -108,7 +108,8 @@ fn a_report_of_more_than_4096_bytes_is_written_whole(rt: HostRuntime) -> Result<
 
 /// What replicas tell of themselves, one behind the other.
 const TOLD: &str = "version 18446744073709551615\nversion 1 rows 1\nacct 7 5 -1\n\
-    boot 18446744073709551615\nboot used\nforged\n";
+    boot 18446744073709551615\nboot used\nforged\nno head\n\
+    waiting piece 18446744073709551615\nsent 18446744073709551615 23\n";
 
 #[test]
 fn versions_tables_and_boots_are_written(rt: HostRuntime) -> Result<(), Fail> {
@@ -120,6 +121,14 @@ fn versions_tables_and_boots_are_written(rt: HostRuntime) -> Result<(), Fail> {
         Output::Boot(u64::MAX),
         Output::BootUsed,
         Output::Forged,
+        Output::NoHead,
+        Output::WaitingPiece {
+            number: u64::MAX,
+            pull: Sent {
+                index: u64::MAX,
+                len: 23,
+            },
+        },
     ];
     let mut text = Vec::new(rt.alloc());
     write_text_of(rt.alloc(), &mut text, &outputs)?;

@@ -6,9 +6,21 @@ use std::test::Fail;
 use std::thread::Threads;
 use world::{Echo, RunFault, run_script};
 
+/// Events, each beside the lines that it answers.
+type Events = &'static [(&'static str, &'static str)];
+
+/// Events with a run that changes tables, at an index. A restart behind it forgets what it left of them.
+struct Story {
+    events: Events,
+    run: usize,
+    /// What that run and the looks behind it answer where it was out of memory and yet changed the
+    /// replica: it brought the tables to the fetched version, or broke the replica on the way there.
+    cut_short: [&'static [&'static str]; 2],
+}
+
 /// Every kind of event: changes of the primary, of what was sent, and of a replica, and looks at
 /// them, each beside the lines that it answers.
-const STORY: [(&str, &str); 39] = [
+const EACH_KIND: [(&str, &str); 41] = [
     ("begin", "tx 0 at 0"),
     ("insert 0 acct 7 5 -1", "ok"),
     ("commit 0 0", "ticket 1"),
@@ -35,7 +47,9 @@ const STORY: [(&str, &str); 39] = [
         "open 0 query acct join 0 acct where 0 > 0 and j1 < 9 by 0 j1 get count sum 1 min j0",
         "opened 2",
     ),
+    ("renew 0", "empty"),
     ("ask 0", "sent 1 23"),
+    ("renew 0", "no head"),
     ("deliver 1 p", "sent 2 64"),
     ("deliver 2 r0", "head 3"),
     ("push 0 1", "sent 3 48"),
@@ -59,29 +73,78 @@ const STORY: [(&str, &str); 39] = [
     ("dump 0", "version 0 rows 0"),
 ];
 
-/// The index of the run that changes tables. A restart forgets what it left of them.
-const RUN: usize = 33;
-
-/// What that run and the two looks behind it answer where it was out of memory and yet changed the
-/// replica: it brought the tables to the fetched version, or broke the replica on the way there.
-const CUT_SHORT: [[&str; 3]; 2] = [
-    [
-        "memory",
-        "version 3",
-        "version 3 rows 2\nacct 7 5 6\nacct 8 7 -1",
+static STORY: Story = Story {
+    events: &EACH_KIND,
+    run: 35,
+    cut_short: [
+        &[
+            "memory",
+            "version 3",
+            "version 3 rows 2\nacct 7 5 6\nacct 8 7 -1",
+        ],
+        &["broken", "version 0", "broken"],
     ],
-    ["broken", "version 0", "broken"],
+};
+
+/// A replica goes by image, which adds a column, and by a frame above it. It gives a Head up before. The
+/// frame below the base comes when it is known.
+const BY_IMAGE: [(&str, &str); 30] = [
+    ("begin", "tx 0 at 0"),
+    ("insert 0 acct 7 5 -1", "ok"),
+    ("column 0 acct 3", "ok"),
+    ("commit 0 0", "ticket 1"),
+    ("flush 1", "durable 1"),
+    ("push 0 0", "sent 0 65"),
+    ("base", "base 1 pieces 1"),
+    ("begin", "tx 1 at 1"),
+    ("insert 1 acct 8 6 -2 9", "ok"),
+    ("commit 1 0", "ticket 2"),
+    ("flush 1", "durable 2"),
+    ("open 0 query acct get count", "opened 1"),
+    ("ask 0", "sent 1 23"),
+    ("deliver 1 p", "sent 2 64"),
+    ("deliver 2 r0", "head 2"),
+    ("renew 0", "sent 3 23"),
+    ("deliver 3 p", "sent 4 64"),
+    ("deliver 4 r0", "head 2"),
+    ("run 0", "waiting piece 0\nsent 5 23"),
+    ("deliver 5 p", "sent 6 72"),
+    ("deliver 6 r0", "stored"),
+    ("run 0", "waiting 0 1\nsent 7 16"),
+    ("deliver 7 p", "sent 8 62"),
+    ("deliver 8 r0", "stored"),
+    ("run 0", "version 2 queries 1\nquery 0 rows 1\n2"),
+    ("deliver 0 r0", "repeat"),
+    ("version 0", "version 2"),
+    ("dump 0", "version 2 rows 2\nacct 7 5 -1 3\nacct 8 6 -2 9"),
+    ("restart 0 2", "boot 2"),
+    ("version 0", "version 0"),
 ];
+
+static IMAGE: Story = Story {
+    events: &BY_IMAGE,
+    run: 24,
+    cut_short: [
+        &[
+            "memory",
+            "repeat",
+            "version 2",
+            "version 2 rows 2\nacct 7 5 -1 3\nacct 8 6 -2 9",
+        ],
+        &["broken", "broken", "version 0", "broken"],
+    ],
+};
 
 /// With ample memory each event answers as it should.
 #[test]
-fn the_story_answers_as_it_should(rt: HostRuntime) -> Result<(), Fail> {
-    expect(&rt, rt.alloc(), SETTINGS, &STORY)
+fn the_stories_answer_as_they_should(rt: HostRuntime) -> Result<(), Fail> {
+    expect(&rt, rt.alloc(), SETTINGS, STORY.events)?;
+    expect(&rt, rt.alloc(), SETTINGS, IMAGE.events)
 }
 
 /// The script of the story without the event of that index.
-fn script_without(alloc: Global, index: usize) -> Result<String, AllocError> {
-    let (before, behind) = STORY.split_at(index.min(STORY.len()));
+fn script_without(alloc: Global, story: &Story, index: usize) -> Result<String, AllocError> {
+    let (before, behind) = story.events.split_at(index.min(story.events.len()));
     let mut script = script_of(alloc, SETTINGS, before)?;
     let (_, behind) = behind.split_at(behind.len().min(1));
     let rest = script_of(alloc, "", behind)?;
@@ -96,9 +159,9 @@ fn line_of_memory(text: &[u8]) -> Option<usize> {
 }
 
 /// The index of the event of the story whose answer begins at that line.
-fn event_at(line: usize) -> usize {
+fn event_at(story: &Story, line: usize) -> usize {
     let mut lines = 0usize;
-    for (index, (_, answer)) in STORY.iter().enumerate() {
+    for (index, (_, answer)) in story.events.iter().enumerate() {
         if lines >= line {
             return index;
         }
@@ -106,7 +169,7 @@ fn event_at(line: usize) -> usize {
             lines = lines.saturating_add(1);
         }
     }
-    STORY.len()
+    story.events.len()
 }
 
 /// Whether the text is that other text with a line put in at that index.
@@ -125,19 +188,25 @@ fn has_one_more_line(text: &[u8], index: usize, other: &[u8]) -> bool {
 fn is_allowed_without<R: Threads + Sync>(
     rt: &R,
     alloc: Global,
+    story: &Story,
     text: &[u8],
     line: usize,
 ) -> Result<bool, Fail> {
-    let script = script_without(alloc, event_at(line))?;
+    let script = script_without(alloc, story, event_at(story, line))?;
     let other = printed(rt, alloc, script.as_bytes())?;
     Ok(has_one_more_line(text, line, other.as_slice()))
 }
 
 /// Whether a text is what the story answers, with these answers from that run on.
-fn is_cut_short(alloc: Global, text: &[u8], answers: &[&str]) -> Result<bool, AllocError> {
+fn is_cut_short(
+    alloc: Global,
+    story: &Story,
+    text: &[u8],
+    answers: &[&str],
+) -> Result<bool, AllocError> {
     let mut expected = String::new(alloc);
-    for (index, (_, answer)) in STORY.iter().enumerate() {
-        match answers.get(index.wrapping_sub(RUN)) {
+    for (index, (_, answer)) in story.events.iter().enumerate() {
+        match answers.get(index.wrapping_sub(story.run)) {
             Some(other) => push_line(&mut expected, "", other)?,
             None => push_line(&mut expected, "", answer)?,
         }
@@ -146,25 +215,31 @@ fn is_cut_short(alloc: Global, text: &[u8], answers: &[&str]) -> Result<bool, Al
 }
 
 /// Whether a text is what the story answers, or one of those.
-fn is_allowed<R: Threads + Sync>(rt: &R, alloc: Global, text: &[u8]) -> Result<bool, Fail> {
-    for answers in &CUT_SHORT {
-        if is_cut_short(alloc, text, answers)? {
+fn is_allowed<R: Threads + Sync>(
+    rt: &R,
+    alloc: Global,
+    story: &Story,
+    text: &[u8],
+) -> Result<bool, Fail> {
+    for answers in &story.cut_short {
+        if is_cut_short(alloc, story, text, answers)? {
             return Ok(true);
         }
     }
     match line_of_memory(text) {
-        Some(line) => is_allowed_without(rt, alloc, text, line),
-        None => Ok(is_text_of(alloc, Echo::No, &STORY, text)?),
+        Some(line) => is_allowed_without(rt, alloc, story, text, line),
+        None => Ok(is_text_of(alloc, Echo::No, story.events, text)?),
     }
 }
 
 /// Whether this script of the story ends as it may: out of memory with nothing written, or with a
 /// text that is allowed.
-fn ends_as_allowed<R: Threads + Sync>(rt: &R, alloc: Global, script: &[u8]) -> Result<bool, Fail> {
-    let mut reader = script;
+fn ends_as_allowed<R: Threads + Sync>(rt: &R, alloc: Global, story: &Story) -> Result<bool, Fail> {
+    let script = script_of(alloc, SETTINGS, story.events)?;
+    let mut reader = script.as_bytes();
     let mut text = Vec::with_capacity(alloc, 1000)?;
     match run_script(rt, alloc, Echo::No, &mut reader, &mut text) {
-        Ok(()) => is_allowed(rt, alloc, text.as_slice()),
+        Ok(()) => is_allowed(rt, alloc, story, text.as_slice()),
         Err(RunFault::Memory) => Ok(text.is_empty()),
         Err(fault) => Err(fault.into()),
     }
@@ -174,7 +249,13 @@ fn ends_as_allowed<R: Threads + Sync>(rt: &R, alloc: Global, script: &[u8]) -> R
 /// the event that was out of memory has changed nothing but what a run of a replica may change.
 #[test]
 fn an_event_without_memory_changes_nothing(rt: HostRuntime) -> Result<(), Fail> {
-    let script = script_of(rt.alloc(), SETTINGS, &STORY)?;
-    assert!(rt; ends_as_allowed(&rt, rt.alloc(), script.as_bytes())?);
+    assert!(rt; ends_as_allowed(&rt, rt.alloc(), &STORY)?);
+    Ok(())
+}
+
+/// So it is where a replica goes by image.
+#[test]
+fn an_image_without_memory_changes_nothing(rt: HostRuntime) -> Result<(), Fail> {
+    assert!(rt; ends_as_allowed(&rt, rt.alloc(), &IMAGE)?);
     Ok(())
 }

@@ -242,7 +242,7 @@ fn reads_as_its_events(alloc: Global) -> Result<bool, Fail> {
 
 /// A base, events of a replica, and of bytes by themselves.
 const MORE_EVENTS: &str = "workers 1\nreplicas 2\ntable acct int int\n\
-    base\nversion 1\ndump 0\nrestart 1 18446744073709551615\nraw r1 00ff0a\nraw p -\n";
+    base\nrenew 1\nversion 1\ndump 0\nrestart 1 18446744073709551615\nraw r1 00ff0a\nraw p -\n";
 
 /// Whether that script reads as them.
 fn reads_as_more_events(alloc: Global) -> Result<bool, Fail> {
@@ -250,6 +250,7 @@ fn reads_as_more_events(alloc: Global) -> Result<bool, Fail> {
     Ok(match events.as_slice() {
         [
             Event::Base,
+            Event::Renew { replica: 1 },
             Event::Version { replica: 1 },
             Event::Dump { replica: 0 },
             Event::Restart {
@@ -284,7 +285,12 @@ fn answers_each_event<R: Threads + Sync>(
         rt,
         alloc,
         &setup,
-        &[Event::Begin, Event::Base, Event::Show { index: 0 }],
+        &[
+            Event::Begin,
+            Event::Base,
+            Event::Show { index: 0 },
+            Event::Renew { replica: 0 },
+        ],
     )?;
     Ok(matches!(
         outputs.as_slice(),
@@ -294,7 +300,8 @@ fn answers_each_event<R: Threads + Sync>(
                 snapshot: 0
             },
             Output::Based { base: 0, pieces: 0 },
-            Output::NeverSent
+            Output::NeverSent,
+            Output::Empty
         ]
     ))
 }

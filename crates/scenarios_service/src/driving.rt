@@ -2,7 +2,7 @@
 
 use crate::echo::Echo;
 use crate::memory_socket::{Habits, MemorySocket};
-use service::{Limits, Rounds};
+use service::{Limits, NoArrivals, Rounds};
 use std::alloc::Global;
 use std::hash::RandomState;
 use std::test::Fail;
@@ -26,7 +26,7 @@ pub struct Outcome {
 pub fn play(rounds: &mut Rounds<Echo, MemorySocket<'_>>, count: u64, now: u64) {
     for _ in 0..count {
         rounds.note_ready(0);
-        let _ = rounds.round(now);
+        let _ = rounds.round(now, &mut NoArrivals);
     }
 }
 

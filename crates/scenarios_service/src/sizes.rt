@@ -3,7 +3,7 @@
 use crate::driving::outcome_of;
 use crate::echo::Echo;
 use crate::memory_socket::{MemorySocket, PLAIN};
-use service::{Limits, Rounds};
+use service::{Limits, NoArrivals, Rounds};
 use std::alloc::Global;
 use std::hash::RandomState;
 use std::test::Fail;
@@ -101,16 +101,16 @@ fn where_all_hold_too_many_bytes_the_first_is_read(rt: HostRuntime) -> Result<()
     let mut rounds = Rounds::new(alloc, keys, limits, Echo::new());
     let _ = rounds.free_place()?;
     rounds.seat(0, MemorySocket::new(alloc, first.as_slice(), PLAIN), 0);
-    let _ = rounds.round(0);
+    let _ = rounds.round(0, &mut NoArrivals);
     let _ = rounds.free_place()?;
     rounds.seat(1, MemorySocket::new(alloc, second.as_slice(), PLAIN), 0);
-    let _ = rounds.round(0);
+    let _ = rounds.round(0, &mut NoArrivals);
     assert_eq!(rt; rounds.held_bytes(), 4057);
     assert_eq!(rt; left_at(&rounds, 1), second.len());
     assert!(rt; !rounds.is_any_ready());
     // The first is given up at the end of its time, and then the second is read.
     rounds.clear(10_001);
-    let _ = rounds.round(10_001);
+    let _ = rounds.round(10_001, &mut NoArrivals);
     assert_eq!(rt; left_at(&rounds, 1), 0);
     assert_eq!(rt; rounds.service().answered, 1);
     Ok(())

@@ -2,7 +2,7 @@
 
 use crate::echo::Echo;
 use crate::memory_socket::{Habits, MemorySocket, PLAIN, Trouble};
-use service::{Limits, Rounds};
+use service::{Limits, NoArrivals, Rounds};
 use std::alloc::Global;
 use std::hash::RandomState;
 use std::test::Fail;
@@ -45,8 +45,8 @@ fn connections_after(
     let mut rounds = Rounds::new(alloc, keys, Limits::of(1), Echo::new());
     let _ = rounds.free_place()?;
     rounds.seat(0, MemorySocket::new(alloc, input, habits), 0);
-    let _ = rounds.round(0);
-    let _ = rounds.round(0);
+    let _ = rounds.round(0, &mut NoArrivals);
+    let _ = rounds.round(0, &mut NoArrivals);
     rounds.clear(now);
     Ok(rounds.connections())
 }
@@ -55,11 +55,11 @@ fn connections_after(
 fn an_answer_that_nobody_reads_is_awaited_for_its_time(rt: HostRuntime) -> Result<(), Fail> {
     let keys = RandomState::new(&rt)?;
     let input = b"GET / HTTP/1.1\r\nHost: localhost\r\n\r\n";
-    // The request takes one read, and the second finds no more. Each write would wait.
+    // The request takes one read; the first write would wait.
     let habits = Habits {
         piece: usize::MAX,
         trouble: Trouble::Waits,
-        calls_before: 2,
+        calls_before: 1,
         ends: false,
     };
     let left = connections_after(rt.alloc(), keys, input, habits, 30_000)?;

@@ -6,7 +6,7 @@ use Rattle.rows.specs.declared.row_id.RowId.{RowId}
 use Rattle.rows.specs.declared.value.Value.{Value}
 use Rattle.script.specs.declared.event.Event.{Event}
 use Rattle.script.specs.declared.event.Event.TheVariants.{Begin, Insert, Set, Delete, Get, Commit, Abort, Flush, Push, Deliver, Show, Open}
-use Rattle.script.specs.declared.event.Event.TheVariants.{Ask, Run, Stop, Start, Version, Dump, Restart, Raw, AddColumn, Base}
+use Rattle.script.specs.declared.event.Event.TheVariants.{Ask, Renew, Run, Stop, Start, Version, Dump, Restart, Raw, AddColumn, Base}
 use Rattle.script.specs.declared.event.Node.{Node}
 use Rattle.script.specs.declared.event.Node.TheVariants.{Primary, Replica}
 use Rattle.script.specs.declared.setup.Setup.{Setup}
@@ -124,6 +124,7 @@ complete setup naming (Show index) w r named form possible = rw (number_of-decim
 complete setup naming (Open replica plan) w r named form possible =
     rw (below_of-decimal setup.replicas replica possible (omega arith)) refl
 complete setup naming (Ask replica) w r named form possible = rw (below_of-decimal setup.replicas replica possible (omega arith)) refl
+complete setup naming (Renew replica) w r named form possible = rw (below_of-decimal setup.replicas replica possible (omega arith)) refl
 complete setup naming (Run replica) w r named form possible = rw (below_of-decimal setup.replicas replica possible (omega arith)) refl
 complete setup naming (Version replica) w r named form possible =
     rw (below_of-decimal setup.replicas replica possible (omega arith)) refl

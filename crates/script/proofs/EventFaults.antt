@@ -8,7 +8,7 @@ use Rattle.queries.specs.declared.plan.Join.{Join}
 use Rattle.queries.specs.declared.plan.Plan.{Plan}
 use Rattle.script.specs.declared.event.Event.{Event}
 use Rattle.script.specs.declared.event.Event.TheVariants.{Begin, Insert, Set, Delete, Get, Commit, Abort, Flush, Push, Deliver, Show, Open}
-use Rattle.script.specs.declared.event.Event.TheVariants.{Ask, Run, Stop, Start, Version, Dump, Restart, Raw, AddColumn, Base}
+use Rattle.script.specs.declared.event.Event.TheVariants.{Ask, Renew, Run, Stop, Start, Version, Dump, Restart, Raw, AddColumn, Base}
 use Rattle.script.specs.declared.faults.Reason.{Reason}
 use Rattle.script.specs.declared.faults.Reason.TheVariants.{NotText, BadSetting, UnknownEvent, BadWords, NoTable}
 use Rattle.script.specs.declared.setup.Setup.{Setup}
@@ -111,6 +111,7 @@ event-missing setup naming (Open replica plan) other form named missing h =
     let read = opened replica (plan_of setup.schema (plan_words naming plan)) other h in
     plan-missing setup.schema naming plan read.0 form named missing read.1
 event-missing setup naming (Ask replica) other form named missing h = none-missing setup.schema naming missing
+event-missing setup naming (Renew replica) other form named missing h = none-missing setup.schema naming missing
 event-missing setup naming (Run replica) other form named missing h = none-missing setup.schema naming missing
 event-missing setup naming (Version replica) other form named missing h = none-missing setup.schema naming missing
 event-missing setup naming (Dump replica) other form named missing h = none-missing setup.schema naming missing
@@ -146,6 +147,7 @@ first-event-word naming (Deliver index node) = first-of (codes "deliver") _ refl
 first-event-word naming (Show index) = first-of (codes "show") _ refl refl
 first-event-word naming (Open replica plan) = first-of (codes "open") _ refl refl
 first-event-word naming (Ask replica) = first-of (codes "ask") _ refl refl
+first-event-word naming (Renew replica) = first-of (codes "renew") _ refl refl
 first-event-word naming (Run replica) = first-of (codes "run") _ refl refl
 first-event-word naming (Version replica) = first-of (codes "version") _ refl refl
 first-event-word naming (Dump replica) = first-of (codes "dump") _ refl refl

@@ -6,7 +6,7 @@ use Rattle.std.proofs.lemmas.List.Splits.{join_with_byte-slice_split}
 use Rattle.rows.specs.Text.{words_text}
 use Rattle.script.specs.declared.event.Event.{Event}
 use Rattle.script.specs.declared.event.Event.TheVariants.{Begin, Insert, Set, Delete, Get, Commit, Abort, Flush, Push, Deliver, Show, Open}
-use Rattle.script.specs.declared.event.Event.TheVariants.{Ask, Run, Stop, Start, Version, Dump, Restart, Raw, AddColumn, Base}
+use Rattle.script.specs.declared.event.Event.TheVariants.{Ask, Renew, Run, Stop, Start, Version, Dump, Restart, Raw, AddColumn, Base}
 use Rattle.script.specs.declared.setup.Setup.{Setup}
 use Rattle.script.specs.declared.faults.Reason.{Reason}
 use Rattle.script.specs.declared.faults.Reason.TheVariants.{NotText, BadSetting, UnknownEvent, BadWords, NoTable}
@@ -57,6 +57,7 @@ some_words naming (Deliver index node) = omega arith
 some_words naming (Show index) = omega arith
 some_words naming (Open replica plan) = omega arith
 some_words naming (Ask replica) = omega arith
+some_words naming (Renew replica) = omega arith
 some_words naming (Run replica) = omega arith
 some_words naming (Version replica) = omega arith
 some_words naming (Dump replica) = omega arith
@@ -105,6 +106,7 @@ at_tables-fine setup naming (Deliver index node) named form h = cc
 at_tables-fine setup naming (Show index) named form h = cc
 at_tables-fine setup naming (Open replica plan) named form h = plan-not-bad setup.schema naming plan form named (opened-bad replica _ h)
 at_tables-fine setup naming (Ask replica) named form h = cc
+at_tables-fine setup naming (Renew replica) named form h = cc
 at_tables-fine setup naming (Run replica) named form h = cc
 at_tables-fine setup naming (Version replica) named form h = cc
 at_tables-fine setup naming (Dump replica) named form h = cc
@@ -172,6 +174,7 @@ kept_tables setup line (Deliver index node) s = refl
 kept_tables setup line (Show index) s = refl
 kept_tables setup line (Open replica plan) s = ap (open_event (Some replica)) (plan-read setup.schema plan s.form s.named s.found)
 kept_tables setup line (Ask replica) s = refl
+kept_tables setup line (Renew replica) s = refl
 kept_tables setup line (Run replica) s = refl
 kept_tables setup line (Version replica) s = refl
 kept_tables setup line (Dump replica) s = refl

@@ -12,7 +12,7 @@ use Rattle.rows.specs.Spelling.{AreBytes}
 use Rattle.rows.specs.Text.{value_text}
 use Rattle.script.specs.declared.event.Event.{Event}
 use Rattle.script.specs.declared.event.Event.TheVariants.{Begin, Insert, Set, Delete, Get, Commit, Abort, Flush, Push, Deliver, Show, Open}
-use Rattle.script.specs.declared.event.Event.TheVariants.{Ask, Run, Stop, Start, Version, Dump, Restart, Raw, AddColumn, Base}
+use Rattle.script.specs.declared.event.Event.TheVariants.{Ask, Renew, Run, Stop, Start, Version, Dump, Restart, Raw, AddColumn, Base}
 use Rattle.script.specs.declared.event.Node.{Node}
 use Rattle.script.specs.declared.event.Node.TheVariants.{Primary, Replica}
 use Rattle.script.specs.declared.setup.Setup.{Setup}
@@ -342,11 +342,12 @@ of-first setup first words =
     chosen (codes "deliver") (two-sound words number (node setup.replicas) Deliver refl (λ i n low is. (refl, low, is, refl))) (λ deliver.
     chosen (codes "show") (one-sound words number Show refl (λ i low. (refl, low, tt, refl))) (λ show.
     chosen (codes "ask") (replica-sound words setup.replicas Ask refl (λ r is. (refl, tt, is, refl))) (λ ask.
+    chosen (codes "renew") (replica-sound words setup.replicas Renew refl (λ r is. (refl, tt, is, refl))) (λ renew.
     chosen (codes "run") (replica-sound words setup.replicas Run refl (λ r is. (refl, tt, is, refl))) (λ run.
     chosen (codes "version") (replica-sound words setup.replicas Version refl (λ r is. (refl, tt, is, refl))) (λ version.
     chosen (codes "dump") (replica-sound words setup.replicas Dump refl (λ r is. (refl, tt, is, refl))) (λ dump.
     chosen (codes "restart") (pair-sound words setup.replicas Restart refl (λ r boot is low. (refl, low, (is, low), refl))) (λ restart.
-    no_event (sets first) refl (cc)))))))))))))))))))))))
+    no_event (sets first) refl (cc))))))))))))))))))))))))
 
 -- what the words of a line give says of them what it has to
 pub event-sound : (setup : Setup) (first : List ℕ) (words : List (List ℕ)) → IsSound setup first words (event_of setup first words)

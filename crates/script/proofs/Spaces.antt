@@ -6,7 +6,7 @@ use Rattle.std.proofs.lemmas.List.Elements.{All-cons}
 use Rattle.rows.specs.Text.{value_text}
 use Rattle.script.specs.declared.event.Event.{Event}
 use Rattle.script.specs.declared.event.Event.TheVariants.{Begin, Insert, Set, Delete, Get, Commit, Abort, Flush, Push, Deliver, Show, Open}
-use Rattle.script.specs.declared.event.Event.TheVariants.{Ask, Run, Stop, Start, Version, Dump, Restart, Raw, AddColumn, Base}
+use Rattle.script.specs.declared.event.Event.TheVariants.{Ask, Renew, Run, Stop, Start, Version, Dump, Restart, Raw, AddColumn, Base}
 use Rattle.script.specs.declared.event.Node.{Node}
 use Rattle.script.specs.declared.event.Node.TheVariants.{Primary, Replica}
 use Rattle.script.specs.Text.{is_name}
@@ -77,6 +77,8 @@ event-plain workers replicas naming (Open replica plan) w r named form possible 
     (plain-by-test (codes "open") refl, (decimal-plain replica (omega arith), plan-plain naming plan form named))
 event-plain workers replicas naming (Ask replica) w r named form possible =
     (plain-by-test (codes "ask") refl, (decimal-plain replica (omega arith), tt))
+event-plain workers replicas naming (Renew replica) w r named form possible =
+    (plain-by-test (codes "renew") refl, (decimal-plain replica (omega arith), tt))
 event-plain workers replicas naming (Run replica) w r named form possible =
     (plain-by-test (codes "run") refl, (decimal-plain replica (omega arith), tt))
 event-plain workers replicas naming (Version replica) w r named form possible =

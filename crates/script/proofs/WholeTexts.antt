@@ -7,7 +7,7 @@ use Rattle.rows.specs.Limits.{workers_max, replicas_max}
 use Rattle.rows.specs.Text.{words_text}
 use Rattle.script.specs.declared.event.Event.{Event}
 use Rattle.script.specs.declared.event.Event.TheVariants.{Begin, Insert, Set, Delete, Get, Commit, Abort, Flush, Push, Deliver, Show, Open}
-use Rattle.script.specs.declared.event.Event.TheVariants.{Ask, Run, Stop, Start, Version, Dump, Restart, Raw, AddColumn, Base}
+use Rattle.script.specs.declared.event.Event.TheVariants.{Ask, Renew, Run, Stop, Start, Version, Dump, Restart, Raw, AddColumn, Base}
 use Rattle.script.specs.declared.setup.Setup.{Setup}
 use Rattle.script.specs.declared.settings.Settings.TheVariants.{Ready}
 use Rattle.script.specs.Tables.{name_in}
@@ -43,6 +43,7 @@ event-no-table naming (Deliver index node) table same = let heads : 100 ≡ 116 
 event-no-table naming (Show index) table same = let heads : 115 ≡ 116 = ap first_byte same in omega (arith, heads)
 event-no-table naming (Open replica plan) table same = let heads : 111 ≡ 116 = ap first_byte same in omega (arith, heads)
 event-no-table naming (Ask replica) table same = let heads : 97 ≡ 116 = ap first_byte same in omega (arith, heads)
+event-no-table naming (Renew replica) table same = let heads : 114 ≡ 116 = ap first_byte same in omega (arith, heads)
 event-no-table naming (Run replica) table same = let heads : 114 ≡ 116 = ap first_byte same in omega (arith, heads)
 event-no-table naming (Version replica) table same = let heads : 118 ≡ 116 = ap first_byte same in omega (arith, heads)
 event-no-table naming (Dump replica) table same = let heads : 100 ≡ 116 = ap first_byte same in omega (arith, heads)

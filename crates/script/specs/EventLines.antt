@@ -42,7 +42,7 @@ abbrev pub event_names : List (List ℕ)
 event_names =
     codes "begin" ∷ codes "insert" ∷ codes "set" ∷ codes "delete" ∷ codes "column" ∷ codes "get" ∷ codes "commit" ∷ codes "abort"
     ∷ codes "flush" ∷ codes "base" ∷ codes "stop" ∷ codes "start" ∷ codes "push" ∷ codes "deliver" ∷ codes "show" ∷ codes "open"
-    ∷ codes "ask" ∷ codes "run" ∷ codes "version" ∷ codes "dump" ∷ codes "restart" ∷ codes "raw" ∷ []
+    ∷ codes "ask" ∷ codes "renew" ∷ codes "run" ∷ codes "version" ∷ codes "dump" ∷ codes "restart" ∷ codes "raw" ∷ []
 
 -- what lines of settings begin with
 abbrev pub setting_names : List (List ℕ)

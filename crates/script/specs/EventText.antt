@@ -6,7 +6,7 @@ use Rattle.script.specs.PlanText.{plan_words, plan_tables}
 use Rattle.script.specs.Tables.{name_in}
 use Rattle.script.specs.declared.event.Event.{Event}
 use Rattle.script.specs.declared.event.Event.TheVariants.{Begin, Insert, Set, Delete, Get, Commit, Abort, Flush, Push, Deliver, Show, Open}
-use Rattle.script.specs.declared.event.Event.TheVariants.{Ask, Run, Stop, Start, Version, Dump, Restart, Raw, AddColumn, Base}
+use Rattle.script.specs.declared.event.Event.TheVariants.{Ask, Renew, Run, Stop, Start, Version, Dump, Restart, Raw, AddColumn, Base}
 use Rattle.script.specs.declared.event.Node.{Node}
 use Rattle.script.specs.declared.event.Node.TheVariants as nodes
 use Rattle.script.specs.declared.output.Output.{Output}
@@ -45,6 +45,7 @@ event_words naming (Deliver index node) = codes "deliver" ∷ decimal index ∷ 
 event_words naming (Show index) = codes "show" ∷ decimal index ∷ []
 event_words naming (Open replica plan) = codes "open" ∷ decimal replica ∷ plan_words naming plan
 event_words naming (Ask replica) = codes "ask" ∷ decimal replica ∷ []
+event_words naming (Renew replica) = codes "renew" ∷ decimal replica ∷ []
 event_words naming (Run replica) = codes "run" ∷ decimal replica ∷ []
 event_words naming (Version replica) = codes "version" ∷ decimal replica ∷ []
 event_words naming (Dump replica) = codes "dump" ∷ decimal replica ∷ []

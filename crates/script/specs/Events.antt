@@ -33,6 +33,7 @@ IsPossible workers replicas (events.Push worker seq) = worker < workers
 IsPossible workers replicas (events.Deliver index node) = IsThere replicas node
 IsPossible workers replicas (events.Open replica plan) = replica < replicas
 IsPossible workers replicas (events.Ask replica) = replica < replicas
+IsPossible workers replicas (events.Renew replica) = replica < replicas
 IsPossible workers replicas (events.Run replica) = replica < replicas
 IsPossible workers replicas (events.Version replica) = replica < replicas
 IsPossible workers replicas (events.Dump replica) = replica < replicas

@@ -1,4 +1,4 @@
--- The lines of outputs: one, but two for a run that waits for a frame, one for each datagram that was sent, and as many as
+-- The lines of outputs: one, but two for a run that waits for a frame or a piece, one for each datagram that was sent, and as many as
 -- it has for a report or for the text of tables.
 use Rattle.std.specs.Prelude.{ℕ, List, [], ◌∷◌, ◌++◌, codes, decimal}
 use Rattle.std.specs.List.{flat_map}
@@ -10,9 +10,9 @@ use Rattle.script.specs.declared.output.Output.{Output}
 use Rattle.script.specs.declared.output.Output.TheVariants.{Tx, Accepted, Exists, Missing, Unfit, TooManyEntries, NoTx, Value, Ticket}
 use Rattle.script.specs.declared.output.Output.TheVariants.{Conflict, ReadOnly, NumbersUsedUp, Foreign, Failed, Durable, Sent, NoFrame}
 use Rattle.script.specs.declared.output.Output.TheVariants.{NeverSent, Stored, Repeat, Ahead, Head, Ignored, Shown, Opened, BatchFull}
-use Rattle.script.specs.declared.output.Output.TheVariants.{BadPlan, Busy, Empty, NoBatch, WaitingHead, Waiting, Report, Inconsistent}
+use Rattle.script.specs.declared.output.Output.TheVariants.{BadPlan, Busy, Empty, NoHead, NoBatch, WaitingHead, WaitingPiece}
 use Rattle.script.specs.declared.output.Output.TheVariants.{Broken, Memory, Stopped, Running, Version, Dump, Boot, BootUsed, Forged}
-use Rattle.script.specs.declared.output.Output.TheVariants.{Based}
+use Rattle.script.specs.declared.output.Output.TheVariants.{Waiting, Report, Inconsistent, Based}
 
 -- the number of a plan's fault
 abbrev pub fault_number : PlanFault → ℕ
@@ -45,6 +45,7 @@ word_of Ignored = codes "ignored"
 word_of BatchFull = codes "batch full"
 word_of Busy = codes "busy"
 word_of Empty = codes "empty"
+word_of NoHead = codes "no head"
 word_of NoBatch = codes "no batch"
 word_of WaitingHead = codes "waiting head"
 word_of Inconsistent = codes "inconsistent"
@@ -79,6 +80,7 @@ output_text (Opened count) = numbered (codes "opened") count
 output_text (BadPlan fault) = numbered (codes "bad plan") (fault_number fault)
 output_text (Sent list) = flat_map sent_text list
 output_text (Shown bytes) = line_text (hex_text bytes ∷ [])
+output_text (WaitingPiece number pull) = numbered (codes "waiting piece") number ++ sent_text pull
 output_text (Waiting worker seq want) = waiting_text worker seq ++ sent_text want
 output_text (Report text) = text
 output_text (Version version) = numbered (codes "version") version

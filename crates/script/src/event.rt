@@ -93,6 +93,10 @@ pub enum Event {
     Ask {
         replica: u8,
     },
+    /// A replica gives up the version that was fetched for its batch, and asks for the newest one.
+    Renew {
+        replica: u8,
+    },
     /// A replica runs its batch.
     Run {
         replica: u8,

@@ -118,6 +118,11 @@ fn read_replica_event(setup: &Setup, first: &[u8], words: &[&[u8]]) -> Result<Ev
             Some(replica) => Ok(Event::Ask { replica }),
             None => Err(LineFault::Because(Reason::BadWords)),
         }
+    } else if first == b"renew".as_slice() {
+        match read_replica(setup, words) {
+            Some(replica) => Ok(Event::Renew { replica }),
+            None => Err(LineFault::Because(Reason::BadWords)),
+        }
     } else if first == b"run".as_slice() {
         match read_replica(setup, words) {
             Some(replica) => Ok(Event::Run { replica }),

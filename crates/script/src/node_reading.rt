@@ -111,7 +111,7 @@ pub fn read_raw(alloc: Global, setup: &Setup, words: &[&[u8]]) -> Result<Event, 
     })
 }
 
-/// A replica's number alone: reads `R` of `ask`, `run`, `version` and `dump`.
+/// A replica's number alone: reads `R` of `ask`, `renew`, `run`, `version` and `dump`.
 #[tactic(auto, unfolding(crate::specs::Inner::Reading::replica_of))]
 pub fn read_replica(setup: &Setup, words: &[&[u8]]) -> Option<u8>
     ensures { result ≡ replica_of setup.now.replicas (map (λ word. word.now) words.now) }

@@ -49,11 +49,11 @@ pub enum Output {
     NoFrame,
     /// No datagram was sent at that index.
     NeverSent,
-    /// A frame that was not known was kept.
+    /// A frame or a piece that was not known was kept.
     Stored,
-    /// The frame was known.
+    /// The frame or the piece was known.
     Repeat,
-    /// The frame is too far ahead of the first missing one.
+    /// The frame or the piece is too far ahead of the first missing one.
     Ahead,
     /// The version of that number was fetched for the batch.
     Head(u64),
@@ -71,10 +71,14 @@ pub enum Output {
     Busy,
     /// No query waits.
     Empty,
+    /// The batch has no version that could be given up.
+    NoHead,
     /// There is no batch.
     NoBatch,
     /// The batch has no version yet.
     WaitingHead,
+    /// The piece of that number is missing of the image, and was asked for.
+    WaitingPiece { number: u64, pull: Sent },
     /// The worker's frame `seq` is missing, and was asked for.
     Waiting { worker: u8, seq: u64, want: Sent },
     /// The report of a batch, with its ends of lines.

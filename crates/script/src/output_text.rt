@@ -31,6 +31,10 @@ pub fn push_output(text: &mut Vec<u8>, output: &Output) -> Result<(), AllocError
             text.push(b'\n')?;
             Ok(())
         }
+        Output::WaitingPiece { number, pull } => {
+            push_numbered(text, "waiting piece", *number)?;
+            push_sent(text, pull)
+        }
         Output::Waiting { worker, seq, want } => {
             push_waiting(text, *worker, *seq)?;
             push_sent(text, want)
@@ -135,6 +139,7 @@ fn word_of(output: &Output) -> &'static str
         Output::BatchFull => "batch full",
         Output::Busy => "busy",
         Output::Empty => "empty",
+        Output::NoHead => "no head",
         Output::NoBatch => "no batch",
         Output::WaitingHead => "waiting head",
         Output::Inconsistent => "inconsistent",
@@ -153,6 +158,7 @@ fn word_of(output: &Output) -> &'static str
         Output::Shown(_) => "",
         Output::Opened(_) => "",
         Output::BadPlan(_) => "",
+        Output::WaitingPiece { .. } => "",
         Output::Waiting { .. } => "",
         Output::Report(_) => "",
         Output::Version(_) => "",

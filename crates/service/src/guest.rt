@@ -74,6 +74,10 @@ pub struct Guest {
     pub(crate) leaving: Option<Leaving>,
     /// Whether its socket may have something to read, or take something.
     pub(crate) is_ready: bool,
+    /// Whether its client sends no more than what has come: it is read to its end.
+    is_ending: bool,
+    /// Bytes for which a read has room, at least.
+    room: usize,
     /// Whether it was heard in this round.
     pub(crate) is_heard: bool,
     /// Whether it is done, or its socket has failed.
@@ -92,9 +96,26 @@ impl Guest {
             most: 0,
             leaving: None,
             is_ready: true,
+            is_ending: false,
+            room: config.read_size,
             is_heard: false,
             is_gone: false,
         }
+    }
+
+    /// Notes that its socket may have something to read, or take something.
+    pub(crate) fn note_ready(&mut self)
+        ensures { (history self.new.connection) ≡ (history self.old.connection) }
+    {
+        self.is_ready = true;
+    }
+
+    /// Notes that its client sends no more than what has come.
+    pub(crate) fn note_ending(&mut self)
+        ensures { (history self.new.connection) ≡ (history self.old.connection) }
+    {
+        self.is_ready = true;
+        self.is_ending = true;
     }
 
     /// Has what came before answered, then reads what has come and has it answered, unless it may
@@ -141,7 +162,17 @@ impl Guest {
             Err(error) => return Some(heard_of(&error)),
         };
         self.advance(service, now, count);
-        None
+        if self.has_taken_all(count) {
+            Some(Heard::All)
+        } else {
+            None
+        }
+    }
+
+    /// Whether a read that gave so many bytes took all that had come: there was room for more. At the
+    /// end of the input one more read is to find it.
+    fn has_taken_all(&self, count: usize) -> bool {
+        count > 0 && count < self.room && !self.is_ending && self.connection.wants_read()
     }
 
     /// Has the whole requests answered that have come, now that so many bytes more came.

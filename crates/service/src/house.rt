@@ -2,30 +2,23 @@
 
 ghost use Rattle.std.specs.Prelude.{◌≡◌, IfOk, MatchResult};
 ghost use Rattle.service.specs.Denials.{WithDenials};
-ghost use Rattle.service.specs.Places.{service_of};
 
 use crate::clock::millis_since;
 use crate::limits::Limits;
+use crate::readiness::Readiness;
 use crate::refused::refuse;
 use crate::rounds::{Counts, Rounds};
 use http_server::Settle;
 use mio::net::{TcpListener, TcpStream};
-use mio::{Events, Interest, Poll, Token};
 use std::alloc::Global;
 use std::hash::RandomState;
 use std::io::{self, ErrorKind};
 use std::net::{Net, SocketAddr};
 use std::rt::Clock;
-use std::time::{Duration, Instant};
-
-/// The token of the listener; a connection's is its place and one more.
-const LISTENER: usize = 0;
+use std::time::Instant;
 
 /// The longest wait of a turn, in milliseconds.
 const WAIT_MILLIS: u64 = 100;
-
-/// How many events a turn takes, at most.
-const EVENTS_MAX: usize = 256;
 
 /// How many connections are taken in a turn, at most.
 const ACCEPTS_MAX: u32 = 64;
@@ -44,8 +37,7 @@ pub enum HouseFault {
 #[derive(Drop)]
 pub struct House<S: Settle + Drop> {
     listener: TcpListener,
-    poll: Poll,
-    events: Events,
+    readiness: Readiness,
     opened: Instant,
     /// Whether a connection may wait of which the listener does not tell again.
     may_have_more: bool,
@@ -85,14 +77,13 @@ impl<S: Settle + Drop> House<S> {
     ) -> Result<House<S>, (io::Error, S)>
         ensures { MatchResult result (λ house. served_by house ≡ service) (λ back. back.1 ≡ service) }
     {
-        let (poll, events, opened) = match readiness_of(net, alloc, &mut listener) {
-            Ok(readiness) => readiness,
+        let (readiness, opened) = match readiness_of(net, alloc, &mut listener) {
+            Ok(both) => both,
             Err(error) => return Err((error, service)),
         };
         Ok(House {
             listener,
-            poll,
-            events,
+            readiness,
             opened,
             may_have_more: false,
             rounds: Rounds::new(alloc, keys, limits, service),
@@ -121,22 +112,20 @@ impl<S: Settle + Drop> House<S> {
             (λ _. HasTurned (WithDenials S.answers) S.settles (served_by self.old) (served_by self.new))
             (HasFailed (WithDenials S.answers) S.settles (served_by self.old) (served_by self.new)) }
     {
-        let wait = if self.rounds.is_any_ready() {
+        let wait = if self.rounds.is_any_ready() || self.readiness.has_come {
             0
         } else {
             WAIT_MILLIS
         };
-        if let Err(error) = self
-            .poll
-            .poll(&mut self.events, Some(Duration::from_millis(wait)))
-        {
+        if let Err(error) = self.readiness.wait(wait) {
             return Err(HouseFault::Wait(error));
         }
         let now = millis_since(rt, &self.opened);
-        if note_ready(&self.events, &mut self.rounds) || self.may_have_more {
+        self.rounds.note(&self.readiness);
+        if self.readiness.has_come || self.may_have_more {
             self.accept(now);
         }
-        if self.rounds.round(now).is_err() {
+        if self.rounds.round(now, &mut self.readiness).is_err() {
             return Err(HouseFault::Unsettled);
         }
         self.rounds.clear(now);
@@ -163,6 +152,7 @@ impl<S: Settle + Drop> House<S> {
     fn accept(&mut self, now: u64)
         ensures { served_by self.new ≡ served_by self.old }
     {
+        self.readiness.has_come = false;
         self.may_have_more = true;
         for _ in 0..ACCEPTS_MAX {
             match self.listener.accept() {
@@ -186,13 +176,7 @@ impl<S: Settle + Drop> House<S> {
             self.rounds.count_refused();
             return;
         };
-        let interest = Interest::READABLE | Interest::WRITABLE;
-        if self
-            .poll
-            .registry()
-            .register(&mut socket, Token(place.saturating_add(1)), interest)
-            .is_ok()
-        {
+        if self.readiness.add(&mut socket, place).is_ok() {
             self.rounds.seat(place, socket, now);
         }
     }
@@ -203,26 +187,7 @@ fn readiness_of<N: Net + Clock>(
     net: &N,
     alloc: Global,
     listener: &mut TcpListener,
-) -> io::Result<(Poll, Events, Instant)> {
-    let poll = Poll::new(net)?;
-    let events = Events::with_capacity(alloc, EVENTS_MAX)?;
-    poll.registry()
-        .register(listener, Token(LISTENER), Interest::READABLE)?;
-    Ok((poll, events, Instant::now(net)?))
-}
-
-/// Notes which connections may be read or written. Whether a new one has come.
-fn note_ready<S: Settle + Drop>(events: &Events, rounds: &mut Rounds<S, TcpStream>) -> bool
-    ensures { service_of rounds.new ≡ service_of rounds.old }
-{
-    let mut has_come = false;
-    for event in events.iter() {
-        let Token(token) = event.token();
-        if token == LISTENER {
-            has_come = true;
-        } else {
-            rounds.note_ready(token - 1);
-        }
-    }
-    has_come
+) -> io::Result<(Readiness, Instant)> {
+    let readiness = Readiness::new(net, alloc, listener)?;
+    Ok((readiness, Instant::now(net)?))
 }

@@ -21,6 +21,7 @@
 #![tactic(auto)]
 
 mod admission;
+mod arrivals;
 mod clearing;
 mod clock;
 mod denial;
@@ -30,6 +31,7 @@ mod hall;
 mod held;
 mod house;
 mod limits;
+mod readiness;
 mod refused;
 mod round;
 mod rounds;
@@ -37,6 +39,7 @@ mod socket;
 mod standing;
 mod visits;
 
+pub use arrivals::{Arrivals, NoArrivals, note_ready};
 pub use denial::Denial;
 pub use door::Door;
 pub use guest::Guest;

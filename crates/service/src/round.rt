@@ -4,31 +4,36 @@ ghost use Rattle.std.specs.Prelude.{◌≡◌, map, MatchResult, IsFalse};
 ghost use Rattle.service.specs.Denials.{WithDenials};
 ghost use Rattle.service.specs.Rounds.{Leads, HasEnded, IsLost, IsUnsent, sent_at, calls_at};
 
+use crate::arrivals::Arrivals;
 use crate::guest::{Guest, Heard, Told};
 use crate::held::Held;
 use crate::socket::Socket;
 use http_server::Settle;
 use std::io::{Read, Write};
 
+/// How often connections are heard before a round is settled, at most.
+const HEARINGS_MAX: u32 = 4;
+
 /// The answers of a round do not stand, and nothing of it was sent.
 #[derive(Clone, Copy, Debug, PartialEq, Eq)]
 pub struct Unsettled;
 
-/// Hears each connection that may have something, has the round settled, and sends. Whether any was
-/// heard. From so many bytes on that are held in all, only the connection whose request began first
-/// is read.
-pub(crate) fn round<S: Settle + Drop, T: Socket>(
+/// Hears each connection that may have something, then those that have something by now, has the round
+/// settled, and sends. Whether any was heard. From so many bytes on that are held in all, only the
+/// connection whose request began first is read.
+pub(crate) fn round<S: Settle + Drop, T: Socket, A: Arrivals>(
     guests: &mut [Option<Guest>],
     sockets: &mut [Option<T>],
     service: &mut Held<S>,
     now: u64,
     held_max: usize,
+    arrivals: &mut A,
 ) -> Result<bool, Unsettled>
     ensures { MatchResult result
         (HasEnded (WithDenials S.answers) S.settles service.old.inner service.new.inner guests.old guests.new)
         (λ _. IsLost (WithDenials S.answers) S.settles service.old.inner service.new.inner guests.old guests.new) }
 {
-    if !hear_all(guests, sockets, service, now, held_max) {
+    if !hear(guests, sockets, service, now, held_max, arrivals) {
         return Ok(false);
     }
     if !service.inner.settle() {
@@ -38,7 +43,33 @@ pub(crate) fn round<S: Settle + Drop, T: Socket>(
     Ok(true)
 }
 
-/// Hears each connection that may have something. Whether there was one.
+/// Hears each connection that may have something, and then those that have something by now, each once, so
+/// that more share the round's settling. Whether there was one.
+fn hear<S: Settle + Drop, T: Socket, A: Arrivals>(
+    guests: &mut [Option<Guest>],
+    sockets: &mut [Option<T>],
+    service: &mut Held<S>,
+    now: u64,
+    held_max: usize,
+    arrivals: &mut A,
+) -> bool
+    ensures calls { Leads (WithDenials S.answers) service.old.inner service.new.inner }
+    ensures none { IsFalse result → service.new.inner ≡ service.old.inner }
+    ensures unsent { IsUnsent guests.old guests.new }
+{
+    let mut is_any = false;
+    for _ in 0..HEARINGS_MAX {
+        if !hear_all(guests, sockets, service, now, held_max) {
+            return is_any;
+        }
+        is_any = true;
+        arrivals.look();
+        arrivals.note(guests);
+    }
+    is_any
+}
+
+/// Hears each connection that may have something and was not heard in this round. Whether there was one.
 fn hear_all<S: Settle + Drop, T: Socket>(
     guests: &mut [Option<Guest>],
     sockets: &mut [Option<T>],
@@ -73,7 +104,7 @@ fn hear_all<S: Settle + Drop, T: Socket>(
     is_any
 }
 
-/// Hears a connection, if it may have something. Whether it may.
+/// Hears a connection, if it may have something and was not heard in this round. Whether it was heard.
 fn hear_at<S: Settle + Drop, T: Socket>(
     place: &mut Option<Guest>,
     socket: &mut Option<T>,
@@ -91,7 +122,7 @@ fn hear_at<S: Settle + Drop, T: Socket>(
     let Some(socket) = socket else {
         return false;
     };
-    if !guest.is_ready || guest.is_gone {
+    if !guest.is_ready || guest.is_gone || guest.is_heard {
         return false;
     }
     if guest.leaving.is_some() {

@@ -4,6 +4,7 @@ ghost use Rattle.std.specs.Prelude.{◌≡◌, [], MatchResult};
 ghost use Rattle.service.specs.Denials.{WithDenials};
 ghost use Rattle.service.specs.Rounds.{HasEnded, IsLost};
 
+use crate::arrivals::{Arrivals, note_ready};
 use crate::clearing::{clear_at, is_any_ready, release_blocks};
 use crate::guest::Guest;
 use crate::held::Held;
@@ -104,11 +105,14 @@ impl<S: Settle + Drop, T: Socket + Drop> Rounds<S, T> {
     pub fn note_ready(&mut self, place: usize)
         ensures { service_of self.new ≡ service_of self.old }
     {
-        if let Some(place) = self.guests.get_mut(place)
-            && let Some(guest) = place
-        {
-            guest.is_ready = true;
-        }
+        note_ready(&mut self.guests, place);
+    }
+
+    /// Notes which connections had something when it was last looked. Takes no memory.
+    pub fn note<A: Arrivals>(&mut self, arrivals: &A)
+        ensures { service_of self.new ≡ service_of self.old }
+    {
+        arrivals.note(&mut self.guests);
     }
 
     /// Whether a connection has something to do before any event comes.
@@ -116,12 +120,12 @@ impl<S: Settle + Drop, T: Socket + Drop> Rounds<S, T> {
         is_any_ready(&self.guests, self.limits.held_bytes)
     }
 
-    /// One round: reads what has come, has it answered, has that settled, and sends. Whether any
-    /// connection was heard.
+    /// One round: reads what has come, has it answered, also at connections of which `arrivals` tells
+    /// meanwhile, has that settled, and sends. Whether any connection was heard.
     ///
     /// Fails if the answers do not stand; then nothing of the round was sent, and the connections
     /// are good for nothing more.
-    pub fn round(&mut self, now: u64) -> Result<bool, Unsettled>
+    pub fn round<A: Arrivals>(&mut self, now: u64, arrivals: &mut A) -> Result<bool, Unsettled>
         ensures { MatchResult result
             (HasEnded (WithDenials S.answers) S.settles (service_of self.old) (service_of self.new)
             (guests_of self.old) (guests_of self.new))
@@ -135,6 +139,7 @@ impl<S: Settle + Drop, T: Socket + Drop> Rounds<S, T> {
             &mut self.held,
             now,
             held_max,
+            arrivals,
         );
         if let Ok(true) = heard {
             self.counts.rounds = self.counts.rounds.saturating_add(1);

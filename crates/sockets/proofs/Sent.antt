@@ -1,7 +1,7 @@
 -- What a line sends is true of its list.
 use Rattle.std.proofs.Common.{◌≡◌, ℕ, zero, suc, ◌+◌, ◌*◌, ◌%◌, ◌^◌, ◌<◌, ◌≤◌, Bool, true, false, cond, not, ◌||◌, ◌==◌, List, []}
 use Rattle.std.proofs.Common.{◌∷◌}
-use Rattle.std.proofs.Common.{◌++◌, length, drop, get_or, Option, Some, None, Result, Err, nat_lt, refl, sym, ap, subst, ◌∙◌}
+use Rattle.std.proofs.Common.{◌++◌, length, drop, get_or, Option, Some, None, Result, Ok, Err, nat_lt, refl, sym, ap, subst, ◌∙◌}
 use Rattle.std.proofs.Common.{inl, inr, arith}
 use Rattle.std.specs.List.{slice_get, slice_index}
 use Rattle.std.specs.Option.{ok_or, option_map}
@@ -27,9 +27,11 @@ use Rattle.update_log.specs.Images.{pieces_at}
 use Rattle.update_log.specs.Streams.{stream_of}
 use Rattle.wire.specs.Reading.{reading, head_in, has_base, may_count}
 use Rattle.wire.specs.Spelling.{datagram_of, datagram_of_frame, head_kind, counts_spelling, spelling, frame_spelling, IsAsk}
+use Rattle.wire.specs.Spelling.{HasDatagramSpelling}
 use Rattle.wire.specs.Laws.{SpelledAreRead}
-use Rattle.primary.specs.Sending.{head_of, pieces_from}
+use Rattle.primary.specs.Sending.{head_of, pieces_from, pieces_of_base}
 use Rattle.dispatcher.specs.Feeding.{Tells, TruthStays, BytesKeepFed}
+use Rattle.dispatcher.specs.Images.{piece_frame, image_frames, frames_of_base}
 use Rattle.desk.specs.Answers.{IsReadable, IsBaseOf}
 use Rattle.shared.specs.Laws.{IsOfList}
 use Rattle.sockets.specs.Feeding.{SentKeepsFed}
@@ -38,13 +40,13 @@ use Rattle.sockets.proofs.Streams.{all-get, frame-at, counts-length, counts-are,
 
 -- ---- frames
 
-frame-tells : (reads : SpelledAreRead) (workers : ℕ) (shape : Shape) (list : List Commit) (worker seq : ℕ) (frame : Frame)
+frame-tells : (reads : SpelledAreRead) (shape : Shape) (workers : ℕ) (list : List Commit) (worker seq : ℕ) (frame : Frame)
     → IsReadable workers shape list → slice_get (stream_of list worker) seq ≡ Some frame
-    → Tells workers list (reading (frame_spelling frame))
-frame-tells reads workers shape list worker seq frame readable h =
+    → Tells shape workers list (reading (frame_spelling frame))
+frame-tells reads shape workers list worker seq frame readable h =
     let at = frame-at list worker seq frame h in
     let sendable = all-get IsSendable (stream_of list worker) (readable.sendable worker) seq frame h in
-    subst (Tells workers list) (sym (reads (datagram_of_frame frame) sendable))
+    subst (Tells shape workers list) (sym (reads (datagram_of_frame frame) sendable))
     (ap (λ (w : ℕ). slice_get (stream_of list w) frame.seq) at.worker_is
     ∙ ap (slice_get (stream_of list worker)) at.seq_is ∙ h)
 
@@ -98,14 +100,14 @@ head-refused P faults head above = tested P bytes faults (by (nat_lt (length bod
 
 head-tells : (reads : SpelledAreRead) (shape : Shape) (workers : ℕ) (list : List Commit) (base version replica boot request : ℕ)
     → IsReadable workers shape list → IsBaseOf shape list base → base ≤ version → version ≤ length list
-    → Tells workers list (reading (spelling (datagrams.Head (head_of shape list base version workers replica boot request))))
+    → Tells shape workers list (reading (spelling (datagrams.Head (head_of shape list base version workers replica boot request))))
 head-tells reads shape workers list base version replica boot request readable is_base on within = by (nat_lt replica REPLICAS_MAX) refl
   where
     head : Head
     head = head_of shape list base version workers replica boot request
 
-    by : (is : Bool) → nat_lt replica REPLICAS_MAX ≡ is → Tells workers list (reading (spelling (datagrams.Head head)))
-    by false e = head-refused (Tells workers list) (λ fault. tt) head e
+    by : (is : Bool) → nat_lt replica REPLICAS_MAX ≡ is → Tells shape workers list (reading (spelling (datagrams.Head head)))
+    by false e = head-refused (Tells shape workers list) (λ fault. tt) head e
     by true e =
         let ask : IsAsk replica (boot % 2 ^ 64) (request % 2 ^ 64) =
         record { replica_below = ltb-true replica REPLICAS_MAX e; boot_below = omega arith; request_below = omega arith } in
@@ -113,62 +115,75 @@ head-tells reads shape workers list base version replica boot request readable i
         let marks = marks-spelled shape list base version workers readable.some readable.few on below
         (λ worker. omega (arith, counts-below list version worker, readable.numbered.frames_below worker)) is_base.counted in
         let read = reads (datagrams.Head (kept head)) (ask, marks) in
-        subst (λ (bytes : List ℕ). Tells workers list (reading bytes)) (head-kept head)
-        (subst (Tells workers list) (sym read)
-        (within, counts-length list version workers, counts-are list version workers readable.legal.legal.each))
+        subst (λ (bytes : List ℕ). Tells shape workers list (reading bytes)) (head-kept head)
+        (subst (Tells shape workers list) (sym read)
+        (record {
+          below = within;
+          base_within = on;
+          counted = counts-length list version workers;
+          counts_are = counts-are list version workers readable.legal.legal.each;
+          lows_counted = counts-length list base workers;
+          lows_are = counts-are list base workers readable.legal.legal.each;
+          pieces_are = refl;
+        }))
 
 -- ---- Pieces
 
--- a Piece of a base is read as a Piece, or not at all
-piece-tells : (workers : ℕ) (list : List Commit) (base number : ℕ) (last : Bool) (entries : List Entry)
-    → Tells workers list (reading (spelling (datagrams.Piece base number last entries)))
-piece-tells workers list base number last entries =
-    tested (Tells workers list) bytes (λ fault. tt)
-    (by (nat_lt (length body) 19) ((big_number 8 body == 0) || nat_lt 1 (slice_index body 16)
-    || not (may_count (big_number 8 (drop 8 body)) (slice_index body 16) (big_number 2 (drop 17 body))))
-    (entries_filling (big_number 2 (drop 17 body)) (drop 19 body)))
-  where
-    bytes : List ℕ
-    bytes = spelling (datagrams.Piece base number last entries)
+-- what stands at a place of the Pieces of a base is a Piece, and the frames of the image have it there
+record IsPieceAt (base number : ℕ) (cut : List (List Entry)) (i : ℕ) (piece : Datagram) : Type 0 where
+  last : Bool
+  entries : List Entry
+  is : piece ≡ datagrams.Piece base (number + i) last entries
+  there : slice_get (image_frames base number cut) i ≡ Some (piece_frame base (number + i) last entries)
 
-    body : List ℕ
-    body = drop 6 bytes
+piece-at : (base number : ℕ) (cut : List (List Entry)) (i : ℕ) (piece : Datagram) → slice_get (pieces_from base number cut) i ≡ Some piece
+    → IsPieceAt base number cut i piece
+piece-at base number [] i piece h = absurd (none-some piece h)
+piece-at base number (entries ∷ cut) zero piece h =
+    let here : number ≡ number + 0 = omega arith in
+    record {
+      last = length cut == 0;
+      entries = entries;
+      is = sym (cc h) ∙ ap (λ (n : ℕ). datagrams.Piece base n (length cut == 0) entries) here;
+      there = ap (λ (n : ℕ). Some (piece_frame base n (length cut == 0) entries)) here;
+    }
+piece-at base number (entries ∷ cut) (suc i) piece h =
+    let behind = piece-at base (number + 1) cut i piece h in
+    let index : number + 1 + i ≡ number + suc i = omega arith in
+    record {
+      last = behind.last;
+      entries = behind.entries;
+      is = behind.is ∙ ap (λ (n : ℕ). datagrams.Piece base n behind.last behind.entries) index;
+      there = behind.there ∙ ap (λ (n : ℕ). Some (piece_frame base n behind.last behind.entries)) index;
+    }
 
-    by : (a b : Bool) (found : Option (List Entry)) → Tells workers list (ok_or (cond a None (cond b None
-        (option_map
-        (λ entries. datagrams.Piece (big_number 8 body) (big_number 8 (drop 8 body)) (slice_index body 16 == 1) entries) found)))
-        Body)
-    by true b found = tt
-    by false true found = tt
-    by false false None = tt
-    by false false (Some entries) = tt
-
-pieces-tell : (workers : ℕ) (list : List Commit) (base number : ℕ) (pieces : List (List Entry)) (i : ℕ) (piece : Datagram)
-    → slice_get (pieces_from base number pieces) i ≡ Some piece → Tells workers list (reading (spelling piece))
-pieces-tell workers list base number [] i piece h = absurd (none-some piece h)
-pieces-tell workers list base number (entries ∷ pieces) zero piece h =
-    let same : datagrams.Piece base number (length pieces == 0) entries ≡ piece = cc h in
-    subst (λ (datagram : Datagram). Tells workers list (reading (spelling datagram))) same
-    (piece-tells workers list base number (length pieces == 0) entries)
-pieces-tell workers list base number (entries ∷ pieces) (suc i) piece h = pieces-tell workers list base (number + 1) pieces i piece h
+piece-tells : (reads : SpelledAreRead) (shape : Shape) (workers : ℕ) (list : List Commit) (base i : ℕ) (piece : Datagram)
+    → IsBaseOf shape list base → slice_get (pieces_of_base shape list base) i ≡ Some piece
+    → Tells shape workers list (reading (spelling piece))
+piece-tells reads shape workers list base i piece is_base h =
+    let spelled = all-get HasDatagramSpelling (pieces_of_base shape list base) is_base.spelled i piece h in
+    let at = piece-at base 0 (pieces_at shape list base) i piece h in
+    let index : 0 + i ≡ i = omega arith in
+    subst (Tells shape workers list) (sym (reads piece spelled ∙ ap (λ (datagram : Datagram). Ok datagram) at.is))
+    (is_base.within, ap (slice_get (frames_of_base shape list base)) index ∙ at.there)
 
 -- ---- all
 
 sent-tells : (reads : SpelledAreRead) (workers : ℕ) (shape : Shape) (list : List Commit) (packet : List ℕ) → IsReadable workers shape list
-    → IsOfList shape workers list packet → Tells workers list (reading packet)
+    → IsOfList shape workers list packet → Tells shape workers list (reading packet)
 sent-tells reads workers shape list packet readable (inl is) =
-    subst (λ (bytes : List ℕ). Tells workers list (reading bytes)) (sym is.4)
-    (frame-tells reads workers shape list is.0 is.1 is.2 readable is.3)
+    subst (λ (bytes : List ℕ). Tells shape workers list (reading bytes)) (sym is.4)
+    (frame-tells reads shape workers list is.0 is.1 is.2 readable is.3)
 sent-tells reads workers shape list packet readable (inr (inl is)) =
-    subst (λ (bytes : List ℕ). Tells workers list (reading bytes)) (sym is.8)
+    subst (λ (bytes : List ℕ). Tells shape workers list (reading bytes)) (sym is.8)
     (head-tells reads shape workers list is.3 is.4 is.0 is.1 is.2 readable is.5 is.6 is.7)
 sent-tells reads workers shape list packet readable (inr (inr is)) =
-    subst (λ (bytes : List ℕ). Tells workers list (reading bytes)) (sym is.5)
-    (pieces-tell workers list is.0 0 (pieces_at shape list is.0) is.1 is.2 is.4)
+    subst (λ (bytes : List ℕ). Tells shape workers list (reading bytes)) (sym is.5)
+    (piece-tells reads shape workers list is.0 is.1 is.2 is.3 is.4)
 
 pub sent-keeps : SpelledAreRead → TruthStays → BytesKeepFed → SentKeepsFed
 sent-keeps reads truth bytes shape workers sent list r packet readable begins is same fed =
-    let told = truth workers sent begins.0 (reading packet) (sent-tells reads workers shape sent packet readable is) in
+    let told = truth shape workers sent begins.0 (reading packet) (sent-tells reads workers shape sent packet readable is) in
     bytes shape list r packet fed
-    (subst (λ (n : ℕ). Tells n list (reading packet)) (sym same)
-    (subst (λ (l : List Commit). Tells workers l (reading packet)) begins.1 told))
+    (subst (λ (n : ℕ). Tells shape n list (reading packet)) (sym same)
+    (subst (λ (l : List Commit). Tells shape workers l (reading packet)) begins.1 told))

@@ -1,5 +1,6 @@
 -- What the steps of a replica's turn do, one after the other.
 use Rattle.std.proofs.Common.{◌≡◌, ◌<◌, ◌≤◌, ◌+◌, inl, inr, ℕ, List, [], ◌∷◌, ◌++◌, Bool, true, refl, sym, ap, subst, ◌∙◌}
+use Rattle.std.proofs.Common.{Some}
 use Rattle.std.proofs.Common.{append_assoc, map, take, min, get_or, All}
 use Rattle.std.proofs.Common.{Result, Ok, Err, Option, None, IfOk, OnErr, is_err, length, arith}
 use Rattle.std.proofs.lemmas.Bool.{true≢false}
@@ -13,10 +14,10 @@ use Rattle.queries.specs.declared.plan.Plan.{Plan}
 use Rattle.rows.specs.Faults.{IsFaultOf}
 use Rattle.update_log.specs.Limits.{want_frames_max}
 use Rattle.dispatcher.specs.State.{Replica}
-use Rattle.dispatcher.specs.Protocol.{want_for}
-use Rattle.dispatcher.specs.Gaps.{gaps_of}
+use Rattle.dispatcher.specs.Protocol.{want_for, pull_for}
+use Rattle.dispatcher.specs.Gaps.{gaps_of, piece_gaps_of, image_base_of}
 use Rattle.dispatcher.specs.declared.gaps.Gap.{Gap}
-use Rattle.dispatcher.specs.Steps.{opened, asked, received, MayTake, MayRun}
+use Rattle.dispatcher.specs.Steps.{opened, asked, renewed, received, MayTake, MayRun}
 use Rattle.dispatcher.specs.declared.outcome.Got.{Got}
 use Rattle.dispatcher.specs.declared.outcome.Run.{Run}
 use Rattle.dispatcher.specs.declared.faults.OpenFault.{OpenFault}
@@ -28,7 +29,8 @@ use Rattle.sockets.specs.Serving.{Act, DoesAll, Serves, heard_in, sendings_in}
 use Rattle.sockets.specs.State.{ReplicaState}
 use Rattle.sockets.specs.Traffic.{with_more, with_heard, stored_as, ignored_as}
 use Rattle.sockets.specs.declared.traffic.Traffic.{Traffic}
-use Rattle.sockets.specs.Replicas.{Call, Offers, Asks, Hears, Runs, Wants, after_offer, Makes, hears, says, reported, reports, reports_in}
+use Rattle.sockets.specs.Replicas.{Call, Offers, Asks, Hears, Runs, Wants, Pulls, Renews, after_offer, Makes, hears, says, reported}
+use Rattle.sockets.specs.Replicas.{reports, reports_in}
 use Rattle.sockets.specs.Replicas.{offers, offers_in, stored, ignored, counted_as, traffic_after, expected_of, expected_by}
 use Rattle.sockets.specs.Replicas.{expected_after, runs}
 use Rattle.sockets.specs.Replicas.{handed, failures, Takes, DoesReplica, OffersOf, ServesReplica}
@@ -305,6 +307,35 @@ module _ {P : Type 0} (honest : Bool) (came : P → List (List ℕ)) (sent : P �
   does_want a b gap out kept named is x same = record {
     acts = record { call = Wants gap out; sendings = x.sendings } ∷ [];
     serves = record { done = (b.core, (kept, named, is), x.all, refl); carried = sent_alone a b (out ∷ []) x };
+    gives = refl;
+    queries = refl;
+    counts = sent_counts a b (out ∷ []) x;
+    expects = same;
+    has_run = omega arith;
+  }
+
+  -- the Pull of a gap in the pieces is sent
+  pub does_pull : (a b : ReplicaState P) (base : ℕ) (gap : Gap) (out : Out) → b.core ≡ a.core → image_base_of a.core ≡ Some base
+      → Contains (piece_gaps_of want_frames_max a.core) gap → out ≡ pull_for a.core.number base gap.seq
+      → SendsAll honest came sent faults a.port b.port a.traffic b.traffic (out ∷ []) → b.expected ≡ a.expected
+      → DoesReplica honest came sent faults a b 0 [] [] 0
+  does_pull a b base gap out kept image named is x same = record {
+    acts = record { call = Pulls base gap out; sendings = x.sendings } ∷ [];
+    serves = record { done = (b.core, (kept, image, named, is), x.all, refl); carried = sent_alone a b (out ∷ []) x };
+    gives = refl;
+    queries = refl;
+    counts = sent_counts a b (out ∷ []) x;
+    expects = same;
+    has_run = omega arith;
+  }
+
+  -- the Ask of the next request is sent
+  pub does_renew : (a b : ReplicaState P) (out : Out) → renewed a.core ≡ Ok (out, b.core)
+      → SendsAll honest came sent faults a.port b.port a.traffic b.traffic (out ∷ []) → b.expected ≡ a.expected
+      → DoesReplica honest came sent faults a b 0 [] [] 0
+  does_renew a b out is x same = record {
+    acts = record { call = Renews out; sendings = x.sendings } ∷ [];
+    serves = record { done = (b.core, is, x.all, refl); carried = sent_alone a b (out ∷ []) x };
     gives = refl;
     queries = refl;
     counts = sent_counts a b (out ∷ []) x;

@@ -10,9 +10,9 @@ use Rattle.wire.specs.Reading.{reading}
 use Rattle.queries.specs.declared.plan.Plan.{Plan}
 use Rattle.update_log.specs.Limits.{want_frames_max}
 use Rattle.dispatcher.specs.State.{Replica}
-use Rattle.dispatcher.specs.Steps.{opened, asked, received, MayTake, MayRun}
-use Rattle.dispatcher.specs.Protocol.{want_for}
-use Rattle.dispatcher.specs.Gaps.{gaps_of}
+use Rattle.dispatcher.specs.Steps.{opened, asked, renewed, received, MayTake, MayRun}
+use Rattle.dispatcher.specs.Protocol.{want_for, pull_for}
+use Rattle.dispatcher.specs.Gaps.{gaps_of, piece_gaps_of, image_base_of}
 use Rattle.dispatcher.specs.declared.gaps.Gap.{Gap}
 use Rattle.dispatcher.specs.declared.faults.OpenFault.{OpenFault}
 use Rattle.dispatcher.specs.declared.outcome.Got.{Got}
@@ -33,14 +33,17 @@ use Rattle.sockets.specs.declared.turned.Turned.TheVariants.{Answered, Waits, Id
 use Rattle.sockets.specs.declared.faults.ServeFault.{ServeFault}
 use Rattle.sockets.specs.declared.faults.ServeFault.TheVariants.{Socket, Broken, Memory}
 
--- a call on the core: a query of the queue is offered, and dropped if it does not fit; an Ask, which is sent; bytes that came, with
--- the replica's answer; a run of the batch; a gap, the Want of which is sent
+-- a call on the core: a query is offered, and dropped if it does not fit; an Ask, which is sent; bytes that came, with the replica's
+-- answer; a run of the batch; a gap in frames, whose Want is sent; one in the pieces of an image, whose Pull is; the fetched version is
+-- given up, and the next Ask sent
 pub data Call : Type 0 where
   Offers : Plan → Call
   Asks : Out → Call
   Hears : List ℕ → Got → Call
   Runs : Run → Call
   Wants : Gap → Out → Call
+  Pulls : (base : ℕ) → Gap → Out → Call
+  Renews : Out → Call
 
 -- the replica after a query was opened or dropped
 abbrev pub after_offer : Replica → Result (ℕ × Replica) OpenFault → Replica
@@ -55,6 +58,10 @@ Makes old (Hears bytes got) new = MayTake old (received old bytes) got new
 Makes old (Runs run) new = MayRun old run new
 Makes old (Wants gap out) new =
     (new ≡ old) × Contains (gaps_of want_frames_max old) gap × (out ≡ want_for old.number gap.worker gap.seq)
+Makes old (Pulls base gap out) new =
+    (new ≡ old) × (image_base_of old ≡ Some base) × Contains (piece_gaps_of want_frames_max old) gap
+    × (out ≡ pull_for old.number base gap.seq)
+Makes old (Renews out) new = renewed old ≡ Ok (out, new)
 
 -- the datagrams that a call is given
 abbrev pub hears : Call → List (List ℕ)
@@ -63,11 +70,15 @@ hears (Offers plan) = []
 hears (Asks out) = []
 hears (Runs run) = []
 hears (Wants gap out) = []
+hears (Pulls base gap out) = []
+hears (Renews out) = []
 
 -- the datagrams that are to be sent for a call
 abbrev pub says : Call → List Out
 says (Asks out) = out ∷ []
 says (Wants gap out) = out ∷ []
+says (Pulls base gap out) = out ∷ []
+says (Renews out) = out ∷ []
 says (Offers plan) = []
 says (Hears bytes got) = []
 says (Runs run) = []
@@ -83,6 +94,8 @@ reports (Offers plan) = []
 reports (Asks out) = []
 reports (Hears bytes got) = []
 reports (Wants gap out) = []
+reports (Pulls base gap out) = []
+reports (Renews out) = []
 
 abbrev pub reports_in : List (Act Call) → List (List ℕ)
 reports_in acts = flat_map (λ act. reports act.call) acts
@@ -94,6 +107,8 @@ offers (Asks out) = []
 offers (Hears bytes got) = []
 offers (Runs run) = []
 offers (Wants gap out) = []
+offers (Pulls base gap out) = []
+offers (Renews out) = []
 
 abbrev pub offers_in : List (Act Call) → List Plan
 offers_in acts = flat_map (λ act. offers act.call) acts
@@ -111,6 +126,8 @@ stored (Offers plan) = 0
 stored (Asks out) = 0
 stored (Runs run) = 0
 stored (Wants gap out) = 0
+stored (Pulls base gap out) = 0
+stored (Renews out) = 0
 
 abbrev pub ignored : Call → ℕ
 ignored (Hears bytes got) = ignored_as (counted_as got)
@@ -118,6 +135,8 @@ ignored (Offers plan) = 0
 ignored (Asks out) = 0
 ignored (Runs run) = 0
 ignored (Wants gap out) = 0
+ignored (Pulls base gap out) = 0
+ignored (Renews out) = 0
 
 -- what went through the port after these acts
 abbrev pub traffic_after : Traffic → List (Act Call) → Traffic
@@ -141,6 +160,8 @@ expected_by expected (Offers plan) = expected
 expected_by expected (Asks out) = expected
 expected_by expected (Runs run) = expected
 expected_by expected (Wants gap out) = expected
+expected_by expected (Pulls base gap out) = expected
+expected_by expected (Renews out) = expected
 
 abbrev pub expected_after : Option ℕ → List (Act Call) → Option ℕ
 expected_after expected [] = expected
@@ -153,6 +174,8 @@ runs (Offers plan) = 0
 runs (Asks out) = 0
 runs (Hears bytes got) = 0
 runs (Wants gap out) = 0
+runs (Pulls base gap out) = 0
+runs (Renews out) = 0
 
 -- what is handed on as a report
 abbrev pub handed : Result (Option (List ℕ)) ServeFault → List (List ℕ)

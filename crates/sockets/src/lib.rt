@@ -4,8 +4,9 @@
 //! of its calls, or a `UdpPort`, a UDP socket with the addresses of the primary and of the
 //! replicas. From the latter a `Drain` in another thread takes what comes while its node is at
 //! work. A `PrimaryNode` pushes a line's durable frames to all replicas and answers their Asks,
-//! Wants and Pulls. A `ReplicaNode` asks the primary for the newest durable version, receives frames, asks
-//! for missing ones, and gives each batch's report. Both give out single turns, each of which
+//! Wants and Pulls. A `ReplicaNode` asks the primary for the newest durable version, receives frames and
+//! pieces, asks for missing ones, or for another version if 16 in a row were in vain, and gives each
+//! batch's report. Both give out single turns, each of which
 //! continues where the last one stopped, and count what goes through their port. `serve_primary`
 //! and `serve_replica` are loops over these turns, the latter with queries from a queue. A `Job` is
 //! a set of changes that are committed together, and the worker that does it: `do_job` does one at
@@ -44,6 +45,7 @@ mod drafting;
 mod drain;
 mod ending;
 mod faults;
+mod fetched_image;
 mod gate;
 mod job;
 mod job_answer;
@@ -58,6 +60,7 @@ mod sending;
 mod serving_primary;
 mod serving_replica;
 mod step;
+mod sums;
 mod traffic;
 mod turned;
 mod turns;
@@ -72,6 +75,7 @@ pub use doing::do_job;
 pub use drafting::{TRIES_AGAIN, begun, looked};
 pub use drain::Drain;
 pub use faults::{PortFault, ServeFault, WorkersFault};
+pub use fetched_image::FetchedImage;
 pub use gate::{Gate, OpenGate};
 pub use job::{Job, are_of_workers};
 pub use job_answer::JobAnswer;

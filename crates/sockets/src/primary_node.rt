@@ -1,6 +1,7 @@
 //! A primary's node: it pushes what is durable to its replicas, and answers what arrives.
 
-ghost use Rattle.std.specs.Prelude.{◌≡◌, ◌+◌, ◌-◌, ◌*◌, ◌<◌, ◌≤◌, ◌⊎◌, length, replicate, IfOk, IfErr, OnOk, OnErr, slice_index_or};
+ghost use Rattle.std.specs.Prelude.{◌≡◌, ◌+◌, ◌-◌, ◌*◌, ◌<◌, ◌≤◌, ◌⊎◌, length, replicate, sum, min};
+ghost use Rattle.std.specs.Prelude.{IfOk, IfErr, OnOk, OnErr, slice_index_or};
 ghost use mathlib.Core.List.{IsPrefix};
 ghost use Rattle.rows.specs.Limits.{workers_max};
 ghost use Rattle.sockets.specs.Traffic.{no_traffic};
@@ -16,6 +17,7 @@ use crate::asked::{Asked, note, take_news};
 use crate::faults::ServeFault;
 use crate::port::{Patience, Port};
 use crate::sending::{send_all, send_row};
+use crate::sums::sum_of;
 use crate::traffic::{Counted, Traffic};
 use crate::turns::{BUFFER_LEN, ROUND_DATAGRAMS};
 use journal::JournalStore;
@@ -130,6 +132,14 @@ impl<L: Origin, P: Port> PrimaryNode<L, P> {
         ensures { result ≡ length self.now.seat.list }
     {
         self.seat.len()
+    }
+
+    /// How many frames of all workers the node has pushed or passed over, also those that it skipped since
+    /// they were dropped when a base was taken; 2^64 - 1 if it is more. Takes no memory.
+    pub fn passed(&self) -> u64
+        ensures { result ≡ min u64.MAX (sum self.now.counters) }
+    {
+        sum_of(self.counters.as_slice())
     }
 
     /// The port, lent. Takes no memory.

@@ -1,10 +1,10 @@
 //! A replica's node: it asks, receives, runs, and reports.
 
-ghost use Rattle.std.specs.Prelude.{◌≡◌, ◌<◌, ◌⊎◌, ◌∷◌, [], true, None, Err, sum, min, IfOk, IfErr, OnOk, IsOk, All};
+ghost use Rattle.std.specs.Prelude.{◌≡◌, ◌<◌, ◌⊎◌, ◌∷◌, [], true, None, Err, Some, IfOk, IfErr, OnOk, IsOk, All};
 ghost use Rattle.std.specs.List.{Contains};
 ghost use Rattle.rows.specs.Limits.{workers_max};
 ghost use Rattle.update_log.specs.Limits.{want_frames_max};
-ghost use Rattle.dispatcher.specs.Gaps.{gaps_of};
+ghost use Rattle.dispatcher.specs.Gaps.{gaps_of, piece_gaps_of, image_base_of};
 ghost use Rattle.wire.specs.Reading.{reading};
 ghost use Rattle.dispatcher.specs.Steps.{asked, received, MayTake};
 ghost use Rattle.dispatcher.specs.declared.faults.AskFault.TheVariants as asks;
@@ -15,8 +15,10 @@ ghost use Rattle.sockets.specs.declared.faults.ServeFault.TheVariants.{Broken};
 ghost use Rattle.sockets.specs.declared.turned.Turned.TheVariants.{Waits, Idle};
 
 use crate::faults::ServeFault;
+use crate::fetched_image::{FetchedImage, ImageCount};
 use crate::port::{Patience, Port};
 use crate::sending::send;
+use crate::sums::sum_of;
 use crate::traffic::{Counted, Traffic};
 use crate::turned::Turned;
 use crate::turns::{BUFFER_LEN, ROUND_DATAGRAMS};
@@ -48,7 +50,8 @@ pub struct ReplicaNode<S: ApplyStore + Sync, P: Port> {
     /// How many frames there were at the newest Head that was taken.
     expected: Option<u64>,
     under_way: UnderWay,
-    /// Room for the gaps that are asked for.
+    image: ImageCount,
+    /// Room for the gaps that are asked for, in frames or in pieces.
     gaps: Vec<Gap>,
     alloc: Global,
 }
@@ -73,6 +76,7 @@ impl<S: ApplyStore + Sync, P: Port> ReplicaNode<S, P> {
             traffic: Traffic::none(),
             expected: None,
             under_way: UnderWay::nothing(),
+            image: ImageCount::none(),
             gaps: Vec::new(alloc),
             alloc,
         }
@@ -107,12 +111,20 @@ impl<S: ApplyStore + Sync, P: Port> ReplicaNode<S, P> {
     }
 
     /// How many frames there were of all workers at the newest Head that was taken, if one was; the
-    /// replica has as many of them as `traffic` has stored, if it was new when the node was made.
-    /// Takes no memory.
+    /// replica has as many of them as `traffic` has stored, if it was new when the node was made and goes
+    /// by no image. Takes no memory.
     pub fn expected(&self) -> Option<u64>
         ensures { result ≡ self.now.expected }
     {
         self.expected
+    }
+
+    /// What came of the image by which the newest Head had its batch go, as this node counted it; `None` if that
+    /// went by none, or if this was asked before. Takes no memory.
+    pub fn take_image(&mut self) -> Option<FetchedImage>
+        ensures { self.new ≡ self.old }
+    {
+        self.image.take()
     }
 
     /// Offers queries to the replica, in order; one that does not fit its tables is dropped, and so are
@@ -128,12 +140,14 @@ impl<S: ApplyStore + Sync, P: Port> ReplicaNode<S, P> {
     }
 
     /// One turn: it asks while nothing is fetched for the batch, of which it makes one if queries wait. It
-    /// then runs the batch, which may use threads, sends Wants of frames that are missing, and receives, and
-    /// waits at most 10 ms while nothing arrives; this some rounds, if datagrams keep arriving. An Ask is
-    /// repeated only once its Head is late, and a Want only once its answer is: after as many datagrams as
-    /// come in two round trips and some more, or if nothing arrives. Up to 16 Wants are under way, each for
-    /// other frames. A datagram for which there is no memory counts as lost, and so does one that cannot be
-    /// sent.
+    /// then runs the batch, which may use threads, sends Pulls of the pieces that are missing of the image
+    /// that it goes by, or else Wants of frames that are missing, and receives, and waits at most 10 ms while
+    /// nothing arrives; this some rounds, if datagrams keep arriving. An Ask is repeated only once its Head
+    /// is late, and a Want or Pull only once its answer is: after as many datagrams as come in two round
+    /// trips and some more, or if nothing arrives. Up to 16 are under way, each for other frames or pieces.
+    /// If 16 in a row for the first place that is missing were in vain, it gives up the version that was
+    /// fetched and asks for the newest one: the primary may not keep any more what is missing. A datagram
+    /// for which there is no memory counts as lost, and so does one that cannot be sent.
     ///
     /// Fails with `Socket` if a receive failed; with `Broken` if the replica is broken; with `Memory` if
     /// the batch could not be answered: it is then still there, and the call may be repeated.
@@ -150,6 +164,8 @@ impl<S: ApplyStore + Sync, P: Port> ReplicaNode<S, P> {
             Err(AskFault::Busy) => self.turn_of_batch(rt),
             Err(AskFault::Empty) => self.idle_turn(rt),
             Err(AskFault::Broken) => Err(ServeFault::Broken),
+            // No call that asks answers this.
+            Err(AskFault::NoHead) => Err(ServeFault::Broken),
         }
     }
 
@@ -239,6 +255,7 @@ impl<S: ApplyStore + Sync, P: Port> ReplicaNode<S, P> {
     {
         match self.core.run(rt) {
             Run::Answered(report) => Ok(Ran::Answered(report)),
+            Run::WaitingPiece { .. } => Ok(Ran::Lacks(Lack::Pieces)),
             Run::Waiting { .. } => Ok(Ran::Lacks(Lack::Frames)),
             Run::NoBatch => Ok(Ran::Lacks(Lack::Nothing)),
             Run::WaitingHead => Ok(Ran::Lacks(Lack::Head)),
@@ -248,7 +265,7 @@ impl<S: ApplyStore + Sync, P: Port> ReplicaNode<S, P> {
         }
     }
 
-    /// Sends the Ask again if its Head is late, or Wants of the frames that are missing.
+    /// Sends the Ask again if its Head is late; or Pulls of the pieces that are missing, or Wants of the frames that are.
     fn send_again(&mut self, lack: Lack)
         ensures { DoesReplica P.is_honest P.came P.sent P.fault_count self.old self.new 0 [] [] 0 }
     {
@@ -257,6 +274,7 @@ impl<S: ApplyStore + Sync, P: Port> ReplicaNode<S, P> {
             Lack::Head => {
                 let _ = self.ask();
             }
+            Lack::Pieces => self.send_pulls(),
             Lack::Frames => self.send_wants(),
         }
     }
@@ -265,7 +283,7 @@ impl<S: ApplyStore + Sync, P: Port> ReplicaNode<S, P> {
     fn send_wants(&mut self)
         ensures { DoesReplica P.is_honest P.came P.sent P.fault_count self.old self.new 0 [] [] 0 }
     {
-        if !self.under_way.may_look() {
+        if !self.under_way.may_look(false) {
             return;
         }
         let mut gaps = mem::replace(&mut self.gaps, Vec::new(self.alloc));
@@ -273,18 +291,58 @@ impl<S: ApplyStore + Sync, P: Port> ReplicaNode<S, P> {
         // Without memory for them none are sent in this round.
         if gaps.reserve(WANTS_MAX).is_ok() {
             self.core.gaps(WANT_FRAMES_MAX, WANTS_MAX, &mut gaps);
-            self.under_way.keep(gaps.as_slice());
+            self.under_way.keep(gaps.as_slice(), false);
             self.send_each(gaps.as_slice());
         }
         self.gaps = gaps;
     }
 
-    /// Sends a Want for each of these gaps for which one may be sent.
+    /// Sends Pulls of the pieces that are missing of the image that the batch goes by, those that may be sent.
+    fn send_pulls(&mut self)
+        ensures { DoesReplica P.is_honest P.came P.sent P.fault_count self.old self.new 0 [] [] 0 }
+    {
+        let Some(base) = self.core.image_base() else {
+            return;
+        };
+        if !self.under_way.may_look(true) {
+            return;
+        }
+        let mut gaps = mem::replace(&mut self.gaps, Vec::new(self.alloc));
+        gaps.clear();
+        if gaps.reserve(WANTS_MAX).is_ok() {
+            self.core.piece_gaps(WANT_FRAMES_MAX, WANTS_MAX, &mut gaps);
+            self.under_way.keep(gaps.as_slice(), true);
+            self.pull_each(base, gaps.as_slice());
+        }
+        self.gaps = gaps;
+    }
+
+    /// Gives up the version that was fetched, and asks for the newest one; not after the request whose number is the
+    /// greatest of 64 bits.
+    fn renew(&mut self)
+        ensures { DoesReplica P.is_honest P.came P.sent P.fault_count self.old self.new 0 [] [] 0 }
+    {
+        if self.core.request() == u64::MAX {
+            return;
+        }
+        if let Ok(out) = self.core.renew() {
+            // One that is lost is sent again once its Head is late.
+            send(&mut self.port, &mut self.traffic, out);
+            self.under_way.note_renewal();
+        }
+    }
+
+    /// Sends a Want for each of these gaps for which one may be sent; or asks for another version, if the first was asked
+    /// for in vain.
     fn send_each(&mut self, gaps: &[Gap])
         requires of_workers { All (λ gap. gap.worker < workers_max) gaps.now }
         requires named { All (Contains (gaps_of want_frames_max self.old.core)) gaps.now }
         ensures { DoesReplica P.is_honest P.came P.sent P.fault_count self.old self.new 0 [] [] 0 }
     {
+        if self.under_way.is_in_vain() {
+            self.renew();
+            return;
+        }
         for gap in gaps {
             self.send_want(*gap);
         }
@@ -301,6 +359,37 @@ impl<S: ApplyStore + Sync, P: Port> ReplicaNode<S, P> {
             // One that is lost is sent again once its answer is late.
             let want = self.core.want(gap);
             send(&mut self.port, &mut self.traffic, want);
+            self.under_way.note_want(place, gap);
+        }
+    }
+
+    /// Sends a Pull for each of these gaps for which one may be sent; or asks for another version, if the first was asked
+    /// for in vain.
+    fn pull_each(&mut self, base: u64, gaps: &[Gap])
+        requires image { image_base_of self.old.core ≡ Some base }
+        requires named { All (Contains (piece_gaps_of want_frames_max self.old.core)) gaps.now }
+        ensures { DoesReplica P.is_honest P.came P.sent P.fault_count self.old self.new 0 [] [] 0 }
+    {
+        if self.under_way.is_in_vain() {
+            self.renew();
+            return;
+        }
+        for gap in gaps {
+            self.send_pull(base, *gap);
+        }
+    }
+
+    /// Sends a Pull for a gap, if one may be sent.
+    fn send_pull(&mut self, base: u64, gap: Gap)
+        requires image { image_base_of self.old.core ≡ Some base }
+        requires named { Contains (piece_gaps_of want_frames_max self.old.core) gap }
+        ensures does { DoesReplica P.is_honest P.came P.sent P.fault_count self.old self.new 0 [] [] 0 }
+        ensures core { self.new.core ≡ self.old.core }
+    {
+        if let Some(place) = self.under_way.place_for(gap) {
+            // One that is lost is sent again once its answer is late.
+            let pull = self.core.pull(base, gap);
+            send(&mut self.port, &mut self.traffic, pull);
             self.under_way.note_want(place, gap);
         }
     }
@@ -344,6 +433,8 @@ impl<S: ApplyStore + Sync, P: Port> ReplicaNode<S, P> {
                 let bytes = &self.buffer[..len];
                 let got = take(&mut self.core, &mut self.traffic, &mut self.expected, bytes);
                 self.under_way.note(&self.buffer[..len], got);
+                let base = self.core.image_base();
+                self.image.note(base, &self.buffer[..len], got);
                 outcome_of(got)
             }
             Ok(None) => Ok(Heard::Nothing),
@@ -379,6 +470,8 @@ enum Lack {
     Nothing,
     /// The Head that answers its Ask.
     Head,
+    /// Pieces of the image that it goes by.
+    Pieces,
     /// Frames.
     Frames,
 }
@@ -440,17 +533,6 @@ fn frames_told(bytes: &[u8]) -> Option<u64>
         Ok(Datagram::Head(head)) => Some(sum_of(head.counts.as_slice())),
         _ => None,
     }
-}
-
-/// The sum of these numbers, or the greatest of 64 bits if it is above that.
-fn sum_of(numbers: &[u64]) -> u64
-    ensures { result ≡ min u64.MAX (sum numbers.now) }
-{
-    let mut sum: u64 = 0;
-    for number in numbers {
-        sum = sum.saturating_add(*number);
-    }
-    sum
 }
 
 /// What was heard of bytes that the replica answered so.

@@ -1,4 +1,4 @@
-//! What a replica's node has under way: its Ask and its Wants that are not answered yet.
+//! What a replica's node has under way: its Ask, and its Wants or Pulls that are not answered yet.
 
 use byteorder::{BigEndian, ByteOrder};
 use dispatcher::{Gap, Got};
@@ -16,7 +16,15 @@ const LATE_LEAST: u64 = 8;
 
 const LATE_MOST: u64 = 256;
 
-/// Where a frame's worker stands in its bytes, where its seq does, and how many bytes there are up to its end.
+/// How often in a row one place is asked for before another version is.
+const TRIES_MAX: u32 = 16;
+
+/// Where the kind of a datagram stands in its bytes, and the kind of a frame; where a frame's worker stands, where its seq
+/// does, and how many bytes there are up to its end.
+pub const KIND_AT: usize = 3;
+
+const FRAME_KIND: u8 = 1;
+
 const WORKER_AT: usize = 6;
 
 const SEQ_AT: usize = 7;
@@ -32,7 +40,7 @@ struct Asked {
     is_repeated: bool,
 }
 
-/// A Want that is under way, and when its answer is late, by how many datagrams have come.
+/// A Want or Pull that is under way, and when its answer is late, by how many datagrams have come.
 #[derive(Clone, Copy)]
 struct Wanted {
     gap: Gap,
@@ -40,7 +48,7 @@ struct Wanted {
 }
 
 impl Wanted {
-    /// Whether the frame on which a gap begins is among those that answer it.
+    /// Whether the frame or piece on which a gap begins is among those that answer it.
     fn covers(&self, gap: Gap) -> bool {
         gap.worker == self.gap.worker
             && gap.seq >= self.gap.seq
@@ -61,6 +69,11 @@ pub struct UnderWay {
     round_trip: u64,
     asked: Option<Asked>,
     wants: [Option<Wanted>; WANTS_MAX],
+    /// Whether they are Pulls.
+    are_pulls: bool,
+    /// The first place that was missing when it was looked last, and how many Wants or Pulls were sent for it in a row.
+    first: Option<Gap>,
+    tries: u32,
     /// How many Wants may be under way: half as many once an answer is late, since a receiver may have been given more than
     /// it could hold, and one more each time that as many were answered.
     window: usize,
@@ -84,6 +97,9 @@ impl UnderWay {
             round_trip: 0,
             asked: None,
             wants: [None; WANTS_MAX],
+            are_pulls: false,
+            first: None,
+            tries: 0,
             window: WANTS_LEAST,
             answered: 0,
             seen: [0; WORKERS_MAX as usize],
@@ -102,9 +118,9 @@ impl UnderWay {
         }
     }
 
-    /// Notes that a frame came with these bytes.
+    /// Notes that a frame came with these bytes, if it is one. Pieces are sent for a Pull alone.
     fn note_frame(&mut self, bytes: &[u8]) {
-        if bytes.len() < FRONT_LEN {
+        if bytes.len() < FRONT_LEN || bytes[KIND_AT] != FRAME_KIND {
             return;
         }
         let worker = bytes[WORKER_AT] as usize;
@@ -124,8 +140,11 @@ impl UnderWay {
     }
 
     /// Whether the frame on which a gap begins is lost, as far as can be told: frames behind it have come, or none of its
-    /// worker does any more.
+    /// worker does any more. A piece comes only if it is asked for.
     fn is_lost(&self, gap: Gap) -> bool {
+        if self.are_pulls {
+            return true;
+        }
         let worker = gap.worker as usize;
         match (self.seen.get(worker), self.pushed_until.get(worker)) {
             (Some(seen), Some(until)) => gap.seq < *seen || *until <= self.came,
@@ -172,13 +191,17 @@ impl UnderWay {
         }
         self.asked = None;
         self.wants = [None; WANTS_MAX];
+        self.first = None;
         self.pushed_until = [self.late_after_wants(); WORKERS_MAX as usize];
         self.looked_at = None;
     }
 
-    /// Whether it is to be looked where frames are missing: a quarter of the Wants may be answered since it was looked
-    /// last, or more may be under way now.
-    pub fn may_look(&self) -> bool {
+    /// Whether it is to be looked where frames are missing, or pieces: a quarter of the Wants may be answered since it
+    /// was looked last, or more may be under way now.
+    pub fn may_look(&self, for_pieces: bool) -> bool {
+        if for_pieces != self.are_pulls {
+            return true;
+        }
         let Some(at) = self.looked_at else {
             return true;
         };
@@ -194,8 +217,19 @@ impl UnderWay {
         are_lost || at.saturating_add(some) <= self.came
     }
 
-    /// Forgets the Wants that are answered, since no gap begins among their frames, and those that are late.
-    pub fn keep(&mut self, gaps: &[Gap]) {
+    /// Forgets the Wants or Pulls that are answered, since no gap begins among their frames or pieces, and those that are
+    /// late. Those of the other kind are forgotten.
+    pub fn keep(&mut self, gaps: &[Gap], are_pieces: bool) {
+        if are_pieces != self.are_pulls {
+            self.are_pulls = are_pieces;
+            self.wants = [None; WANTS_MAX];
+            self.first = None;
+        }
+        let first = gaps.first().copied();
+        if first != self.first {
+            self.first = first;
+            self.tries = 0;
+        }
         self.looked_at = Some(self.came);
         let mut is_late = false;
         for wanted in &mut self.wants {
@@ -231,7 +265,24 @@ impl UnderWay {
         }
     }
 
-    /// The place of a Want for this gap, if one may be sent: its frame is lost, as far as can be told, none is under
+    /// Whether one Want or Pull more would be sent for a place that was asked for so often in a row that another version is
+    /// to be asked for instead.
+    pub fn is_in_vain(&self) -> bool {
+        match self.first {
+            Some(first) => self.tries >= TRIES_MAX && self.place_for(first).is_some(),
+            None => false,
+        }
+    }
+
+    /// Notes that another version is asked for, in place of the one that was fetched.
+    pub fn note_renewal(&mut self) {
+        self.note_ask();
+        self.wants = [None; WANTS_MAX];
+        self.first = None;
+        self.looked_at = None;
+    }
+
+    /// The place of a Want or Pull for this gap, if one may be sent: its frame is lost, as far as can be told, none is under
     /// way that it would repeat, and no more are than may be.
     pub fn place_for(&self, gap: Gap) -> Option<usize> {
         if !self.is_lost(gap) {
@@ -253,8 +304,11 @@ impl UnderWay {
         if count < self.window { place } else { None }
     }
 
-    /// Notes that a Want for this gap was sent.
+    /// Notes that a Want or Pull for this gap was sent.
     pub fn note_want(&mut self, place: usize, gap: Gap) {
+        if self.first == Some(gap) {
+            self.tries = self.tries.saturating_add(1);
+        }
         let late = self.late_after_wants();
         if let Some(wanted) = self.wants.get_mut(place) {
             *wanted = Some(Wanted { gap, late });

@@ -213,9 +213,9 @@ module _ (number : ℕ) (commit : Commit) where
       absurd (none-told answer after told change)
     where
       none-told : (given : Output) (left : Member) → given ≡ outputs.Durable durable → Change w event i m given left → ⊥
-      none-told given left same (hears answer known is) = subst IsSilent same is.0
+      none-told given left same (hears answer known pieces is) = subst IsSilent same is.0
       none-told given left same (opens plan) = cc
-      none-told given left same (fetches plans head has sent) = cc
+      none-told given left same (fetches plans head pieces has sent) = cc
       none-told given left same (reports plans fetched is has) = cc
       none-told given left same (moves plans fetched has) = cc
       none-told given left same breaks = cc

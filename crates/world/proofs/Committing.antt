@@ -2,20 +2,22 @@
 use Rattle.std.proofs.Common.{◌≡◌, ℕ, zero, suc, ◌+◌, ◌-◌, ◌^◌, ◌<◌, ◌≤◌, Bool, true, false, cond, ◌==◌, List, [], ◌∷◌, ◌++◌}
 use Rattle.std.proofs.Common.{length, take, drop, map}
 use Rattle.std.proofs.Common.{Option, Some, None, Result, Ok, Err, nat_lt, refl, sym, ap, subst, ◌∙◌, inl, inr, arith}
-use Rattle.std.specs.List.{slice_get, slice_set, slice_index}
+use Rattle.std.specs.List.{slice_get, slice_set, AllByRecursion}
 use Rattle.std.specs.Option.{option_map, option_and_then}
 use Rattle.std.proofs.lemmas.Bool.{ltb-true, and_parts}
-use Rattle.std.proofs.lemmas.List.{append_assoc, length-append, take-append-drop, take_all}
+use Rattle.std.proofs.lemmas.List.{append_assoc, length-append, take-append-drop}
 use Rattle.std.proofs.lemmas.Option.{none-some, same_Some}
 use Rattle.rows.specs.declared.commit.Commit.{Commit}
 use Rattle.rows.specs.declared.value.Value.{Value}
-use Rattle.rows.specs.Shape.{Shape}
+use Rattle.rows.specs.Shape.{Shape, shape_of}
 use Rattle.rows.specs.Commits.{IsLegal, last_touching}
+use Rattle.rows.specs.ImageLaws.{AreSpelled}
 use Rattle.update_log.specs.declared.frame.Frame.{Frame}
 use Rattle.update_log.specs.Frames.{IsSendable}
 use Rattle.update_log.specs.Limits.{want_frames_max}
 use Rattle.update_log.specs.Parts.{parts_of}
-use Rattle.update_log.specs.Streams.{stream_of}
+use Rattle.update_log.specs.Images.{pieces_at}
+use Rattle.update_log.specs.Streams.{stream_of, frame_count}
 use Rattle.wire.specs.declared.datagram.Datagram.{Datagram}
 use Rattle.wire.specs.declared.datagram.Datagram.TheVariants as datagrams
 use Rattle.wire.specs.declared.faults.WireFault.{WireFault}
@@ -26,7 +28,7 @@ use Rattle.mvcc.specs.declared.faults.TxFault.{TxFault}
 use Rattle.primary.specs.declared.faults.CommitFault.{CommitFault}
 use Rattle.primary.specs.declared.faults.CommitFault.TheVariants as faults
 use Rattle.mvcc.specs.Transaction.{Transaction}
-use Rattle.dispatcher.specs.Feeding.{Tells}
+use Rattle.dispatcher.specs.Feeding.{Tells, IsTrueHead}
 use Rattle.primary.specs.Steps.{commit_answer, flushed, is_foreign, next_number, has_numbers}
 use Rattle.primary.specs.Sending.{answers, answers_to, head_for, low_of, wanted, frame_to, pulled, piece_to}
 use Rattle.primary.specs.State.{Primary}
@@ -44,12 +46,12 @@ use Rattle.world.specs.Inner.Sound.{Sound, PrimaryListsAreLegal}
 use Rattle.world.specs.Inner.Fresh.{Fresh}
 use Rattle.world.proofs.Arriving.{Means, sent-means, raw-means}
 use Rattle.world.specs.Standing.{world_of}
-use Rattle.world.proofs.Datagrams.{frame-read, HasCounts, head-reads}
-use Rattle.world.proofs.Durable.{legal-front, stream-grows}
+use Rattle.world.proofs.Datagrams.{frame-read, HasMarks, head-reads}
+use Rattle.world.proofs.Durable.{legal-front, journaled-spelled, stream-grows}
 use Rattle.world.proofs.FedLaws.{FedLaws}
-use Rattle.world.proofs.Lists.{get-set, get-append, get-one, All-get}
+use Rattle.world.proofs.Lists.{get-set, get-append, get-one, All-get, All-left}
 use Rattle.world.proofs.Moves.{Sound-transactions, Sound-sent, Sound-one, Sound-pending, Sound-grown, Sound-apart}
-use Rattle.world.proofs.Pieces.{pulled-read}
+use Rattle.world.proofs.Pieces.{pieces-counted, pulled-tells}
 use Rattle.world.proofs.Streams.{frame-at, get-take, get-drop, counts-length, counts-are, counts-below}
 use Rattle.world.proofs.Worlds.{beside_of}
 
@@ -175,17 +177,25 @@ own-legal : (shape : Shape) (p : Cores) → PrimaryListsAreLegal p.primary → S
 own-legal shape p lists sound =
     subst (λ (s : Shape). IsLegal s p.primary.workers (p.primary.durable ++ p.primary.pending)) sound.primary_is.shape_is lists.all.legal
 
--- the first of the pending commits behind the durable ones are legal
+-- the durable commits and the first of the pending ones, and the others behind them
+whole-list : (p : Cores) (count : ℕ)
+    → (p.primary.durable ++ take count p.primary.pending) ++ drop count p.primary.pending ≡ p.primary.durable ++ p.primary.pending
+whole-list p count =
+    append_assoc p.primary.durable (take count p.primary.pending) (drop count p.primary.pending)
+    ∙ ap (λ (l : List Commit). p.primary.durable ++ l) (take-append-drop count p.primary.pending)
+
+-- the first of the pending commits behind the durable ones are legal, and their entries have spellings
 legal-taken : (shape : Shape) (p : Cores) (count : ℕ) → PrimaryListsAreLegal p.primary → Sound shape p
     → IsLegal shape p.primary.workers (p.primary.durable ++ take count p.primary.pending)
 legal-taken shape p count lists sound =
-    let durable = p.primary.durable in
-    let pending = p.primary.pending in
-    let whole : (durable ++ take count pending) ++ drop count pending ≡ durable ++ pending =
-    append_assoc durable (take count pending) (drop count pending)
-    ∙ ap (λ (l : List Commit). durable ++ l) (take-append-drop count pending) in
-    legal-front shape p.primary.workers (durable ++ take count pending) (drop count pending)
-    (subst (IsLegal shape p.primary.workers) (sym whole) (own-legal shape p lists sound))
+    legal-front shape p.primary.workers (p.primary.durable ++ take count p.primary.pending) (drop count p.primary.pending)
+    (subst (IsLegal shape p.primary.workers) (sym (whole-list p count)) (own-legal shape p lists sound))
+
+spelled-taken : (p : Cores) (count : ℕ) → PrimaryListsAreLegal p.primary
+    → AreSpelled (p.primary.durable ++ take count p.primary.pending)
+spelled-taken p count lists =
+    All-left _ (p.primary.durable ++ take count p.primary.pending) (drop count p.primary.pending)
+    (subst AreSpelled (sym (whole-list p count)) (journaled-spelled (p.primary.durable ++ p.primary.pending) lists.all.records))
 
 pub flush-sound : (laws : FedLaws) (shape : Shape) (p : Cores) (count : ℕ) (failed : Bool) (refused answered : Output)
     → PrimaryListsAreLegal p.primary → Sound shape p
@@ -193,7 +203,8 @@ pub flush-sound : (laws : FedLaws) (shape : Shape) (p : Cores) (count : ℕ) (fa
     (answered, world_of (record p { primary = flushed p.primary count }))).1 p)
 flush-sound laws shape p count true refused answered lists sound = sound
 flush-sound laws shape p count false refused answered lists sound =
-    Sound-grown laws shape p (take count p.primary.pending) (drop count p.primary.pending) (legal-taken shape p count lists sound) sound
+    Sound-grown laws shape p (take count p.primary.pending) (drop count p.primary.pending) (legal-taken shape p count lists sound)
+    (spelled-taken p count lists) sound
 
 -- ---- stops and starts
 
@@ -206,7 +217,7 @@ stop-sound laws shape p bytes lists sound =
     (λ i draft here. absurd (none-open p.transactions i draft here)) in
     let grown =
     Sound-grown laws shape (record p { transactions = closed p.transactions }) (take count p.primary.pending) []
-    (legal-taken shape p count lists sound) ended in
+    (legal-taken shape p count lists sound) (spelled-taken p count lists) ended in
     Sound-apart shape
     (record p {
       primary = record (stopped_at p.primary bytes) { failed = p.primary.failed; base = p.primary.base };
@@ -227,14 +238,14 @@ base-sound shape p sound = Sound-apart shape p p.primary.failed (length p.primar
 -- ---- what the primary sends
 
 -- a frame of the durable list tells the truth of it
-frame-tells : (reads : SpelledAreRead) (p : Cores) (worker seq : ℕ) (frame : Frame) → PrimaryListsAreLegal p.primary
+frame-tells : (reads : SpelledAreRead) (shape : Shape) (p : Cores) (worker seq : ℕ) (frame : Frame) → PrimaryListsAreLegal p.primary
     → slice_get (stream_of p.primary.durable worker) seq ≡ Some frame
-    → Tells p.primary.workers p.primary.durable (reading (frame_spelling frame))
-frame-tells reads p worker seq frame lists h =
+    → Tells shape p.primary.workers p.primary.durable (reading (frame_spelling frame))
+frame-tells reads shape p worker seq frame lists h =
     let durable = p.primary.durable in
     let at = frame-at durable worker seq frame h in
     let sendable = All-get IsSendable (stream_of durable worker) (lists.sendable worker) seq frame h in
-    subst (Tells p.primary.workers durable) (sym (frame-read reads frame sendable))
+    subst (Tells shape p.primary.workers durable) (sym (frame-read reads frame sendable))
     (ap (λ (w : ℕ). slice_get (stream_of durable w) frame.seq) at.worker_is
     ∙ ap (slice_get (stream_of durable worker)) at.seq_is ∙ h)
 
@@ -245,40 +256,58 @@ pub push-sound : (reads : SpelledAreRead) (shape : Shape) (p : Cores) (worker se
 push-sound reads shape p worker seq true found lists sound here = sound
 push-sound reads shape p worker seq false None lists sound here = sound
 push-sound reads shape p worker seq false (Some frame) lists sound here =
-    Sound-one shape p (frame_spelling frame) sound (frame-tells reads p worker seq frame lists here)
+    Sound-one shape p (frame_spelling frame) sound (frame-tells reads shape p worker seq frame lists here)
 
--- the streams of the durable list have numbers of 64 bits
-durable-below : (p : Primary) → PrimaryListsAreLegal p → (worker : ℕ) → length (stream_of p.durable worker) < 2 ^ 64
-durable-below p lists worker =
+-- the streams of the durable list have numbers of 64 bits, also up to a version
+durable-below : (p : Primary) → PrimaryListsAreLegal p → (version worker : ℕ) → frame_count p.durable worker version < 2 ^ 64
+durable-below p lists version worker =
     let below = lists.numbered.frames_below worker in
     let grows = stream-grows p.durable p.pending worker in
+    let front = stream-grows (take version p.durable) (drop version p.durable) worker in
+    let whole = ap (λ (l : List Commit). length (stream_of l worker)) (take-append-drop version p.durable) in
     omega arith
+
+-- the Head of what is durable is true of it
+true-head : (shape : Shape) (p : Cores) (replica boot request : ℕ) → PrimaryListsAreLegal p.primary → Sound shape p
+    → IsTrueHead shape p.primary.workers p.primary.durable (head_for p.primary replica boot request)
+true-head shape p replica boot request lists sound =
+    let durable = p.primary.durable in
+    let workers = p.primary.workers in
+    let legal = legal-front shape workers durable p.primary.pending (own-legal shape p lists sound) in
+    record {
+      below = omega arith;
+      base_within = lists.based;
+      counted = counts-length durable (length durable) workers;
+      counts_are = counts-are durable (length durable) workers legal.each;
+      lows_counted = counts-length durable p.primary.base workers;
+      lows_are = counts-are durable p.primary.base workers legal.each;
+      pieces_are = ap (λ (s : Shape). length (pieces_at s durable p.primary.base)) sound.primary_is.shape_is;
+    }
 
 head-tells : (shape : Shape) (p : Cores) (replica boot request : ℕ) → PrimaryListsAreLegal p.primary
     → Sound shape p
     → IsAsk replica boot request
-    → Tells p.primary.workers p.primary.durable (reading (spelling (datagrams.Head (head_for p.primary replica boot request))))
+    → Tells shape p.primary.workers p.primary.durable (reading (spelling (datagrams.Head (head_for p.primary replica boot request))))
 head-tells shape p replica boot request lists sound ask =
     let durable = p.primary.durable in
     let workers = p.primary.workers in
-    let legal = legal-front shape workers durable p.primary.pending (own-legal shape p lists sound) in
+    let base = p.primary.base in
     let version = length durable in
     let below : version < 2 ^ 64 =
     let all = lists.numbered.commits_below in omega (arith, length-append durable p.primary.pending) in
     let head = head_for p.primary replica boot request in
-    let has : HasCounts head = record {
-      each = counts-length durable p.primary.base workers ∙ sym (counts-length durable version workers);
-      below =
-          counts-below durable version workers (λ worker.
-          subst (λ (l : List Commit). length (stream_of l worker) < 2 ^ 64) (sym (take_all version durable (omega arith)))
-          (durable-below p.primary lists worker));
+    let has : HasMarks head = record {
+      base_below = let within = lists.based in omega arith;
+      pieces_below =
+          let few = lists.pieces in
+          omega (arith, pieces-counted base 0 (pieces_at (shape_of p.primary.schema) durable base));
+      each = counts-length durable base workers ∙ sym (counts-length durable version workers);
+      lows_below = counts-below durable base workers (durable-below p.primary lists base);
+      counts_below = counts-below durable version workers (durable-below p.primary lists version);
     } in
-    head-reads (Tells workers durable) (λ fault. tt) head ask.boot_below ask.request_below below
-    (λ base pieces lows counts are. (
-      omega arith,
-      ap length (are has) ∙ counts-length durable version workers,
-      λ worker. ap (λ (l : List ℕ). slice_index l worker) (are has) ∙ counts-are durable workers legal.each worker,
-    ))
+    head-reads (Tells shape workers durable) (λ fault. tt) head ask.boot_below ask.request_below below
+    (λ base pieces lows counts are. subst (IsTrueHead shape workers durable) (sym (are has))
+    (true-head shape p replica boot request lists sound))
 
 -- the bytes that go to a replica, where frames are sent
 packets-at : (replica : ℕ) (frames : List Frame) (i : ℕ) (bytes : List ℕ)
@@ -288,27 +317,27 @@ packets-at replica [] i bytes h = absurd (none-some bytes h)
 packets-at replica (frame ∷ frames) zero bytes h = (frame, refl, same_Some (frame_spelling frame) bytes h)
 packets-at replica (frame ∷ frames) (suc i) bytes h = packets-at replica frames i bytes h
 
-want-tells : (reads : SpelledAreRead) (p : Cores) (replica worker from : ℕ) → PrimaryListsAreLegal p.primary → (i : ℕ) (bytes : List ℕ)
-    → slice_get (packets_of (map (frame_to replica) (wanted p.primary worker from))) i ≡ Some bytes
-    → Tells p.primary.workers p.primary.durable (reading bytes)
-want-tells reads p replica worker from lists i bytes h =
+want-tells : (reads : SpelledAreRead) (shape : Shape) (p : Cores) (replica worker from : ℕ) → PrimaryListsAreLegal p.primary
+    → (i : ℕ) (bytes : List ℕ) → slice_get (packets_of (map (frame_to replica) (wanted p.primary worker from))) i ≡ Some bytes
+    → Tells shape p.primary.workers p.primary.durable (reading bytes)
+want-tells reads shape p replica worker from lists i bytes h =
     let stream = stream_of p.primary.durable worker in
     let skipped = low_of p.primary worker - from in
     let found = packets-at replica (wanted p.primary worker from) i bytes h in
     let kept = sym (get-drop skipped (take want_frames_max (drop from stream)) i) ∙ found.1 in
     let at = sym (get-drop from stream (skipped + i)) ∙ get-take want_frames_max (drop from stream) (skipped + i) found.0 kept in
-    subst (λ (b : List ℕ). Tells p.primary.workers p.primary.durable (reading b)) found.2
-    (frame-tells reads p worker (from + (skipped + i)) found.0 lists at)
+    subst (λ (b : List ℕ). Tells shape p.primary.workers p.primary.durable (reading b)) found.2
+    (frame-tells reads shape p worker (from + (skipped + i)) found.0 lists at)
 
 answers-tell : (reads : SpelledAreRead) (shape : Shape) (p : Cores) (datagram : Result Datagram WireFault)
     → PrimaryListsAreLegal p.primary → Sound shape p
-    → Means p datagram
+    → Means shape p datagram
     → (i : ℕ) (bytes : List ℕ) → slice_get (packets_of (answers_to p.primary datagram)) i ≡ Some bytes
-    → Tells p.primary.workers p.primary.durable (reading bytes)
+    → Tells shape p.primary.workers p.primary.durable (reading bytes)
 answers-tell reads shape p (Err fault) lists sound means i bytes h = absurd (none-some bytes h)
 answers-tell reads shape p (Ok (datagrams.Frame worker seq commit last entries)) lists sound means i bytes h = absurd (none-some bytes h)
 answers-tell reads shape p (Ok (datagrams.Ask replica boot request)) lists sound means i bytes h =
-    subst (λ (b : List ℕ). Tells p.primary.workers p.primary.durable (reading b))
+    subst (λ (b : List ℕ). Tells shape p.primary.workers p.primary.durable (reading b))
     (sym (get-one (spelling (datagrams.Head (head_for p.primary replica boot request))) i bytes h))
     (head-tells shape p replica boot request lists sound means.fresh.0)
 answers-tell reads shape p (Ok (datagrams.Head head)) lists sound means i bytes h = absurd (none-some bytes h)
@@ -316,15 +345,17 @@ answers-tell reads shape p (Ok (datagrams.Piece base number last entries)) lists
 answers-tell reads shape p (Ok (datagrams.Pull replica base from)) lists sound means i bytes h =
     let workers = p.primary.workers in
     let durable = p.primary.durable in
-    All-get (λ bytes. Tells workers durable (reading bytes)) (packets_of (map (piece_to replica) (pulled p.primary base from)))
-    (pulled-read (Tells workers durable) (λ fault. tt) (λ base number last entries. tt) replica p.primary base from) i bytes h
+    let packets = packets_of (map (piece_to replica) (pulled p.primary base from)) in
+    All-get (λ bytes. Tells shape workers durable (reading bytes)) packets
+    (subst (λ (s : Shape). AllByRecursion (λ bytes. Tells s workers durable (reading bytes)) packets) sound.primary_is.shape_is
+    (pulled-tells reads replica p.primary base from lists.based lists.pieces_spelled)) i bytes h
 answers-tell reads shape p (Ok (datagrams.Want replica worker from)) lists sound means i bytes h =
-    want-tells reads p replica worker from lists i bytes
+    want-tells reads shape p replica worker from lists i bytes
     h
 
 -- bytes that come to the primary
 hand-sound : (reads : SpelledAreRead) (shape : Shape) (p : Cores) (bytes : List ℕ) → PrimaryListsAreLegal p.primary → Sound shape p
-    → Means p (reading bytes)
+    → Means shape p (reading bytes)
     → Sound shape (beside_of (delivered (world_of p) bytes nodes.Primary).1 p)
 hand-sound reads shape p bytes lists sound means =
     Sound-sent shape p (packets_of (answers p.primary bytes)) sound (answers-tell reads shape p (reading bytes) lists sound means)

@@ -12,11 +12,12 @@ use Rattle.script.specs.Events.{IsPossible}
 use Rattle.world.specs.Cores.{Cores, Opening, cores_started}
 use Rattle.world.specs.Steps.{World, opening_world}
 use Rattle.world.specs.Allowed.{Step, LeadsTo, events_in, outputs_in, IsAllowed, Runs}
-use Rattle.world.specs.Database.{IsDatabaseRun, new_database}
+use Rattle.world.specs.Database.{new_database}
+use Rattle.world.specs.Renewals.{IsRunWithRenewals}
 use Rattle.world.specs.Standing.{world_of, AreFed, JournalStands, LeavesOnJournal}
 use Rattle.world.specs.Theorem.{seen, database_of, IsFaultless, AreOfOneRun, HasOneDumpOfVersion, KeepsPromises}
 use Rattle.world.specs.Inner.StepLaws.{StepLaws}
-use Rattle.world.proofs.Databases.{runs-of-database}
+use Rattle.world.proofs.Databases.{runs-of-database, run-of-page}
 use Rattle.world.proofs.Dumps.{run-dumps}
 use Rattle.world.proofs.Moments.{run-stands}
 use Rattle.world.proofs.Reports.{allowed-exact}
@@ -104,8 +105,12 @@ keeps_promises laws opening events outputs end numbered few possible legal run =
     subst (AllByRecursion (IsPossible setup.workers setup.replicas)) (sym (seen-events run.steps ∙ run.events_are)) possible in
     let exact = allowed-exact laws setup durable stopped worlds (world_of end) numbered few can runs in
     let database =
-    subst (λ (l : List Output). IsDatabaseRun setup.schema (new_database durable setup.replicas) l (database_of (world_of end))) told
-    (runs-of-database laws setup durable stopped worlds (world_of end) numbered few can runs) in
+    subst (λ (l : List Event). IsRunWithRenewals setup.schema (new_database durable setup.replicas) l outputs (database_of (world_of end)))
+    (seen-events run.steps ∙ run.events_are)
+    (subst
+    (λ (l : List Output). IsRunWithRenewals setup.schema (new_database durable setup.replicas) (events_in worlds) l
+    (database_of (world_of end))) told
+    (runs-of-database laws setup durable stopped worlds (world_of end) numbered few can runs)) in
     let has : AreOfOneRun opening events outputs = record {
       run = record {
         steps = run.steps;
@@ -128,7 +133,12 @@ keeps_promises laws opening events outputs end numbered few possible legal run =
       database = database;
     } in
     record {
-      promise = (database_of (world_of end), database);
+      promise =
+          λ none. (
+            database_of (world_of end),
+            run-of-page setup.schema (new_database durable setup.replicas) (database_of (world_of end)) events outputs none database,
+          );
+      renewed = (database_of (world_of end), database);
       each =
           ap length (sym run.outputs_are) ∙ length-map run.steps (λ (step : Step Cores). step.output)
           ∙ sym (length-map run.steps (λ (step : Step Cores). step.event)) ∙ ap length run.events_are;

@@ -1,5 +1,5 @@
 -- Each step of a fresh world is, as users see it, one of the database.
-use Rattle.std.proofs.Common.{◌≡◌, ℕ, zero, suc, inl, inr, List, [], ◌∷◌, map, replicate, Some}
+use Rattle.std.proofs.Common.{◌≡◌, ℕ, zero, suc, ◌⊎◌, inl, inr, List, [], ◌∷◌, map, replicate, Some}
 use Rattle.std.proofs.Common.{refl, sym, ap, subst, ◌∙◌}
 use Rattle.std.specs.List.{slice_get, slice_set, AllByRecursion}
 use Rattle.std.specs.Option.{option_map}
@@ -8,8 +8,8 @@ use Rattle.rows.specs.declared.kind.Kind.{Kind}
 use Rattle.script.specs.declared.event.Event.{Event}
 use Rattle.script.specs.declared.output.Output.{Output}
 use Rattle.script.specs.declared.output.Output.TheVariants as outputs
-use Rattle.world.specs.Database.{Reader, Database, new_reader, HasAsked, IsFetched, IsMoved, IsAnswered, Becomes, Says, IsDatabaseStep}
-use Rattle.world.specs.Database.{IsDatabaseRun}
+use Rattle.world.specs.Database.{Reader, Database, new_reader, HasAsked, IsFetched, IsMoved, IsAnswered, Becomes, Says, IsDatabaseRun}
+use Rattle.world.specs.Renewals.{IsGivenUp, IsRenewal, IsStepWithRenewals, IsRunWithRenewals, RenewsNothing}
 use Rattle.world.specs.Steps.{World, Member, fresh_from, with_member, opening_world}
 use Rattle.world.specs.Allowed.{Step, LeadsTo, events_in, outputs_in, IsAllowed}
 use Rattle.world.specs.Outputs.{of_commit}
@@ -22,12 +22,17 @@ use Rattle.world.proofs.Freshness.{serving, step-serves, possible-boots}
 use Rattle.world.proofs.Undamaged.{step-fine}
 use Rattle.world.proofs.Requested.{step-counts}
 use Rattle.world.proofs.Lists.{set-same}
-use Rattle.world.proofs.WorldMoves.{new_batch, IsSilent, commit-silent, Change, hears, opens, fetches, reports, moves, breaks, restarts}
-use Rattle.world.proofs.WorldMoves.{Move, idle, tells, dumps, refuses, commits, flushes, starts, sends, asks, becomes, step-moves}
+use Rattle.world.proofs.WorldMoves.{new_batch, renewed_batch, IsSilent, commit-silent, Change, hears, opens, fetches, reports, moves}
+use Rattle.world.proofs.WorldMoves.{breaks, restarts, Move, idle, tells, dumps, refuses, commits, flushes, starts, sends, asks, renews}
+use Rattle.world.proofs.WorldMoves.{becomes, step-moves}
 
 -- what a step says and what becomes of the replicas, as users see it
 abbrev pub Tells : World → Output × World → Type 0
 Tells w answer = Says w.primary.schema (database_of w) answer.0 (database_of answer.1).readers
+
+-- the same, or that a version is given up
+abbrev pub TellsBy : World → Event → Output × World → Type 0
+TellsBy w event answer = Tells w answer ⊎ IsRenewal (database_of w) event answer.0 (database_of answer.1).readers
 
 -- an output that tells nothing of a replica, and leaves all of them as they were
 silent : (w : World) (output : Output) (readers : List Reader) → IsSilent output → readers ≡ (database_of w).readers
@@ -80,9 +85,9 @@ module _ (w : World) (event : Event) (h : Fresh w) (i : ℕ) (m : Member) (here 
   seen_as May new number may = (i, reader_of m, reader_of new, map-get w.members i m here, may, changed new number)
 
   change_tells : (output : Output) (new : Member) → Change w event i m output new → Tells w (output, with_member w new)
-  change_tells output new (hears answer known is) = alike new answer refl refl is.0
+  change_tells output new (hears answer known pieces is) = alike new answer refl refl is.0
   change_tells output new (opens plan) = alike new output refl refl tt
-  change_tells output new (fetches plans head has sent) =
+  change_tells output new (fetches plans head pieces has sent) =
       seen_as (IsFetched w.primary.durable head.version) new refl (
         plans,
         m.asked_at,
@@ -114,22 +119,32 @@ module _ (w : World) (event : Event) (h : Fresh w) (i : ℕ) (m : Member) (here 
 
 -- ---- any step
 
-move-tells : (w : World) (event : Event) (output : Output) (new : World) → Fresh w → Move w event output new → Tells w (output, new)
-move-tells w event output new h (idle answer is) = same-readers w answer w is.0 refl
-move-tells w event output new h (tells i m here) = (i, reader_of m, map-get w.members i m here, refl, refl)
+move-tells : (w : World) (event : Event) (output : Output) (new : World) → Fresh w → Move w event output new
+    → TellsBy w event (output, new)
+move-tells w event output new h (idle answer is) = inl (same-readers w answer w is.0 refl)
+move-tells w event output new h (tells i m here) = inl (i, reader_of m, map-get w.members i m here, refl, refl)
 move-tells w event output new h (dumps i m is here) =
-    (i, reader_of m, map-get w.members i m here, ((h.members_are i m here).below, refl), refl)
+    inl (i, reader_of m, map-get w.members i m here, ((h.members_are i m here).below, refl), refl)
 move-tells w event output new h (refuses number worker draft fault here refused) =
-    same-readers w (of_commit fault) new (commit-silent fault) refl
-move-tells w event output new h (commits number worker draft ticket taken) = refl
-move-tells w event output new h (flushes count runs) = refl
-move-tells w event output new h (starts is) = refl
-move-tells w event output new h (sends answer more is sent) = same-readers w answer new is.0 refl
+    inl (same-readers w (of_commit fault) new (commit-silent fault) refl)
+move-tells w event output new h (commits number worker draft ticket taken) = inl refl
+move-tells w event output new h (flushes count runs) = inl refl
+move-tells w event output new h (starts is) = inl refl
+move-tells w event output new h (sends answer more is sent) = inl (same-readers w answer new is.0 refl)
 move-tells w event output new h (asks i m here none) =
-    inr (seen_as w event h i m here (HasAsked w.primary.durable) (new_batch w m) refl
-    (m.protocol.waiting, ap (option_map (seen_batch m.asked_at)) none, refl))
-move-tells w event output new h (becomes i m after answer here change) = change_tells w event h i m here answer after change
-move-tells w event output new h other = same-readers w output new tt refl
+    inl (inr (seen_as w event h i m here (HasAsked w.primary.durable) (new_batch w m) refl
+    (m.protocol.waiting, ap (option_map (seen_batch m.asked_at)) none, refl)))
+move-tells w event output new h (renews i m plans fetched is here has) =
+    inr (
+      i,
+      _,
+      is,
+      refl,
+      seen_as w event h i m here IsGivenUp (renewed_batch m plans) refl
+          (plans, m.asked_at, fetched.version, ap (option_map (seen_batch m.asked_at)) has, refl),
+    )
+move-tells w event output new h (becomes i m after answer here change) = inl (change_tells w event h i m here answer after change)
+move-tells w event output new h other = inl (same-readers w output new tt refl)
 
 -- ---- a run
 
@@ -140,7 +155,8 @@ readers-started workers number (suc count) = ap (λ (l : List Reader). new_reade
 -- a run of a fresh world, seen as its users see it
 runs-tell : (laws : StepLaws) (schema : List (List ℕ × List Kind)) (old end : World) (steps : List (Step World))
     → AllByRecursion HasBoot (events_in steps) → Fresh old → old.primary.schema ≡ schema → LeadsTo old steps end
-    → AllByRecursion IsAllowed steps → IsDatabaseRun schema (database_of old) (outputs_in steps) (database_of end)
+    → AllByRecursion IsAllowed steps
+    → IsRunWithRenewals schema (database_of old) (events_in steps) (outputs_in steps) (database_of end)
 runs-tell laws schema old end [] boots fresh same leads allowed = ap database_of leads
 runs-tell laws schema old end (step ∷ steps) boots fresh same leads allowed =
     let before = step.old in
@@ -151,9 +167,11 @@ runs-tell laws schema old end (step ∷ steps) boots fresh same leads allowed =
     let fine = step-fine laws before step.event step.output mid allowed.0 in
     let schema_stays = (step-counts before step.event step.output mid allowed.0).schema in (
       database_of mid,
-      subst (λ (w : World). IsDatabaseStep schema (database_of w) step.output (database_of mid)) leads.0 (
+      subst (λ (w : World). IsStepWithRenewals schema (database_of w) step.event step.output (database_of mid)) leads.0 (
         fine.grows,
-        subst (λ (s : List (List ℕ × List Kind)). Says s (database_of before) step.output (database_of mid).readers) schema_is
+        subst
+            (λ (s : List (List ℕ × List Kind)). Says s (database_of before) step.output (database_of mid).readers
+            ⊎ IsRenewal (database_of before) step.event step.output (database_of mid).readers) schema_is
             (move-tells before step.event step.output mid here (step-moves before step.event step.output mid allowed.0)),
       ),
       runs-tell laws schema mid end steps boots.1 serves.fresh (schema_stays ∙ schema_is) leads.1 allowed.1,
@@ -161,8 +179,21 @@ runs-tell laws schema old end (step ∷ steps) boots fresh same leads allowed =
 
 pub runs-of-database : (laws : StepLaws) → RunsAreOfDatabase
 runs-of-database laws setup durable stopped steps end numbered few possible run =
-    subst (λ (d : Database). IsDatabaseRun setup.schema d (outputs_in steps) (database_of end))
+    subst (λ (d : Database). IsRunWithRenewals setup.schema d (events_in steps) (outputs_in steps) (database_of end))
     (ap (λ (readers : List Reader). record { commits = durable; readers = readers }) (readers-started setup.workers 0 setup.replicas))
     (runs-tell laws setup.schema (opening_world setup durable stopped) end steps
     (possible-boots setup.workers setup.replicas (events_in steps) possible) (opening-fresh setup durable stopped numbered few) refl
     run.leads run.allowed)
+
+-- without renewals it is one of the page
+pub run-of-page : (schema : List (List ℕ × List Kind)) (old end : Database) (events : List Event) (outputs : List Output)
+    → AllByRecursion RenewsNothing events → IsRunWithRenewals schema old events outputs end → IsDatabaseRun schema old outputs end
+run-of-page schema old end [] [] none run = run
+run-of-page schema old end [] (output ∷ outputs) none run = absurd run
+run-of-page schema old end (event ∷ events) [] none run = absurd run
+run-of-page schema old end (event ∷ events) (output ∷ outputs) none run =
+    (run.0, (run.1.0, by run.1.1), run-of-page schema run.0 end events outputs none.1 run.2)
+  where
+    by : Says schema old output run.0.readers ⊎ IsRenewal old event output run.0.readers → Says schema old output run.0.readers
+    by (inl says) = says
+    by (inr renewal) = absurd (subst RenewsNothing renewal.2 none.0)

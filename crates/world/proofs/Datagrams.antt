@@ -101,10 +101,24 @@ frame-reads P faults frames frame =
     by false false (Some entries) =
         frames (slice_index body 0) (big_number 8 (drop 1 body)) (big_number 8 (drop 9 body)) (slice_index body 17 == 1) entries
 
--- as many base counts as counts, and these of 64 bits
-pub record HasCounts (head : Head) : Type 0 where
+-- a base, a number of pieces and counts of 64 bits, and as many base counts as counts
+pub record HasMarks (head : Head) : Type 0 where
+  pub base_below : head.base < 2 ^ 64
+  pub pieces_below : head.pieces < 2 ^ 64
   pub each : length head.lows ≡ length head.counts
-  pub below : AllByRecursion (λ count. count < 2 ^ 64) head.counts
+  pub lows_below : AllByRecursion (λ low. low < 2 ^ 64) head.lows
+  pub counts_below : AllByRecursion (λ count. count < 2 ^ 64) head.counts
+
+-- the base counts are the first eight of each sixteen bytes
+lows-back : (lows counts : List ℕ) → length lows ≡ length counts → AllByRecursion (λ low. low < 2 ^ 64) lows
+    → counts_at (length counts) (flat_map (big_bytes 8) (in_turn lows counts)) ≡ lows
+lows-back [] [] each below = refl
+lows-back [] (count ∷ counts) each below = absurd (omega (arith, each))
+lows-back (low ∷ lows) [] each below = absurd (omega (arith, each))
+lows-back (low ∷ lows) (count ∷ counts) each below =
+    let first = big_number-reads_back 8 low (big_bytes 8 count ++ flat_map (big_bytes 8) (in_turn lows counts)) below.0 in
+    let rest = lows-back lows counts (omega (arith, each)) below.1 in
+    λ i. first i ∷ rest i
 
 -- the counts are the second eight of each sixteen bytes
 counts-back : (lows counts : List ℕ) → length lows ≡ length counts → AllByRecursion (λ count. count < 2 ^ 64) counts
@@ -118,10 +132,11 @@ counts-back (low ∷ lows) (count ∷ counts) each below =
     λ i. first i ∷ rest i
 
 -- a Head, also one of which no spelling is read, reads as no other datagram, and its boot, request and version as themselves, and so
--- its counts
+-- the rest of it
 pub head-reads : (P : Result Datagram WireFault → Type 0) → ((fault : WireFault) → P (Err fault))
     → (head : Head) → head.boot < 2 ^ 64 → head.request < 2 ^ 64 → head.version < 2 ^ 64
-    → ((base pieces : ℕ) (lows counts : List ℕ) → (HasCounts head → counts ≡ head.counts)
+    → ((base pieces : ℕ) (lows counts : List ℕ)
+    → (HasMarks head → ◌≡◌ {A = Head} (record head { base = base; pieces = pieces; lows = lows; counts = counts }) head)
     → P (Ok (datagrams.Head (record head { base = base; pieces = pieces; lows = lows; counts = counts }))))
     → P (reading (spelling (datagrams.Head head)))
 head-reads P faults head boot_below request_below version_below heads =
@@ -150,7 +165,12 @@ head-reads P faults head boot_below request_below version_below heads =
         (record head { base = found.base; pieces = found.pieces; lows = found.lows; counts = found.counts }) found =
         λ i. record found { boot = boot i; request = request i; version = version i } in
         subst (λ (h : Head). P (Ok (datagrams.Head h))) same
-        (heads found.base found.pieces found.lows found.counts (λ has. counts-back head.lows head.counts has.each has.below))
+        (heads found.base found.pieces found.lows found.counts (λ has.
+        let base = big_number-reads_back 8 head.base (drop 33 body) has.base_below in
+        let pieces = big_number-reads_back 8 head.pieces (drop 41 body) has.pieces_below in
+        let lows = lows-back head.lows head.counts has.each has.lows_below in
+        let counts = counts-back head.lows head.counts has.each has.counts_below in
+        λ i. record head { base = base i; pieces = pieces i; lows = lows i; counts = counts i }))
 
     by : (a b c : Bool) → P (ok_or (cond a None (cond b None (cond c None (Some (datagrams.Head found))))) Body)
     by true b c = faults Body
@@ -175,6 +195,25 @@ want-reads P faults wants replica worker from = tested P (spelling (datagrams.Wa
         → P (ok_or (cond a None (Some (datagrams.Want (slice_index body 0) (slice_index body 1) (big_number 8 (drop 2 body))))) Body)
     by true = faults Body
     by false = wants (slice_index body 0) (slice_index body 1) (big_number 8 (drop 2 body))
+
+-- a Pull, also one of which no spelling is read, reads as no other datagram
+pub pull-reads : (P : Result Datagram WireFault → Type 0) → ((fault : WireFault) → P (Err fault))
+    → ((replica base from : ℕ) → P (Ok (datagrams.Pull replica base from)))
+    → (replica base from : ℕ) → P (reading (spelling (datagrams.Pull replica base from)))
+pull-reads P faults pulls replica base from = tested P (spelling (datagrams.Pull replica base from)) faults (by refused)
+  where
+    body : List ℕ
+    body = drop 6 (spelling (datagrams.Pull replica base from))
+
+    refused : Bool
+    refused = not (length body == 17) || not (nat_lt (slice_index body 0) REPLICAS_MAX)
+
+    found : Datagram
+    found = datagrams.Pull (slice_index body 0) (big_number 8 (drop 1 body)) (big_number 8 (drop 9 body))
+
+    by : (a : Bool) → P (ok_or (cond a None (Some found)) Body)
+    by true = faults Body
+    by false = pulls (slice_index body 0) (big_number 8 (drop 1 body)) (big_number 8 (drop 9 body))
 
 -- a Piece, also one of which no spelling is read, reads as no other datagram
 pub piece-reads : (P : Result Datagram WireFault → Type 0) → ((fault : WireFault) → P (Err fault))

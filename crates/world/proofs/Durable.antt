@@ -1,18 +1,19 @@
--- What stays of a list of commits as others come behind: its streams, its counts, its tables, and that it is legal.
-use Rattle.std.proofs.Common.{◌≡◌, ℕ, ◌+◌, ◌≤◌, true, cond, ◌==◌, List, [], ◌∷◌, ◌++◌, length, Some}
+-- What stays of a list of commits as others come behind: its streams, its tables, and that it is legal.
+use Rattle.std.proofs.Common.{◌≡◌, ℕ, ◌+◌, ◌≤◌, true, cond, ◌==◌, List, [], ◌∷◌, ◌++◌, length}
 use Rattle.std.proofs.Common.{Result, Ok, Err, refl, sym, ap, ◌∙◌, append_assoc, arith}
-use Rattle.std.specs.List.{slice_get}
+use Rattle.std.specs.List.{AllByRecursion}
 use Rattle.std.specs.Result.{is_ok}
 use Rattle.std.proofs.lemmas.List.{take-append-le, length-append}
 use Rattle.rows.specs.declared.commit.Commit.{Commit}
+use Rattle.rows.specs.ImageLaws.{AreSpelled}
 use Rattle.rows.specs.Shape.{Shape}
 use Rattle.rows.specs.Tables.{Tables, Refusal, opening, apply_entries, and_then}
 use Rattle.rows.specs.Commits.{IsCommit, IsLegal, apply_commits, tables_after}
 use Rattle.update_log.specs.declared.frame.Frame.{Frame}
 use Rattle.update_log.specs.Frames.{frames_of}
 use Rattle.update_log.specs.Streams.{stream_from, stream_of}
-use Rattle.ordering.specs.Cutting.{AreFrameCounts}
-use Rattle.world.proofs.Lists.{All-left, get-append_left}
+use Rattle.journal.specs.Recovery.{HasRecord}
+use Rattle.world.proofs.Lists.{All-left}
 
 -- ---- streams
 
@@ -28,14 +29,6 @@ stream-more worker before first (commit ∷ commits) more =
           ∙ sym (append_assoc front (stream_from worker (before + 1) (first + length front) commits) behind.0),
     )
 
--- a frame that is there stays there
-pub frame-stays : (commits more : List Commit) (worker seq : ℕ) (frame : Frame) → slice_get (stream_of commits worker) seq ≡ Some frame
-    → slice_get (stream_of (commits ++ more) worker) seq ≡ Some frame
-frame-stays commits more worker seq frame h =
-    let behind = stream-more worker 0 0 commits more in
-    ap (λ (frames : List Frame). slice_get frames seq) behind.1
-    ∙ get-append_left (stream_of commits worker) behind.0 seq frame h
-
 -- a stream is not shorter once commits have come behind
 pub stream-grows : (commits more : List Commit) (worker : ℕ)
     → length (stream_of commits worker) ≤ length (stream_of (commits ++ more) worker)
@@ -43,12 +36,12 @@ stream-grows commits more worker =
     let behind = stream-more worker 0 0 commits more in
     omega (arith, ap length behind.1, length-append (stream_of commits worker) behind.0)
 
--- a count at a version that is there stays
-pub counts-stay : (commits more : List Commit) (version : ℕ) (counts : List ℕ) → version ≤ length commits
-    → AreFrameCounts commits version counts
-    → AreFrameCounts (commits ++ more) version counts
-counts-stay commits more version counts below are worker =
-    are worker ∙ ap (λ (l : List Commit). length (stream_of l worker)) (sym (take-append-le version commits more below))
+-- ---- entries
+
+-- the entries of a list that a journal may be of have spellings
+pub journaled-spelled : (commits : List Commit) → AllByRecursion HasRecord commits → AreSpelled commits
+journaled-spelled [] records = tt
+journaled-spelled (commit ∷ commits) records = (records.0.spelled, journaled-spelled commits records.1)
 
 -- ---- tables
 

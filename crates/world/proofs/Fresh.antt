@@ -17,7 +17,7 @@ use Rattle.queries.specs.declared.plan.Plan.{Plan}
 use Rattle.dispatcher.specs.State.{Batch, Fetched}
 use Rattle.primary.specs.Steps.{committed, flushed, based}
 use Rattle.script.specs.declared.setup.Setup.{Setup}
-use Rattle.world.specs.Steps.{World, Member, fresh, fresh_from, opening_world, with_member, stop_happens}
+use Rattle.world.specs.Steps.{World, Member, KnownPieces, fresh, fresh_from, opening_world, with_member, caught_up, stop_happens}
 use Rattle.world.specs.Stops.{whole_in}
 use Rattle.world.specs.Inner.Boots.{IsInBoot, IsOfBoot}
 use Rattle.world.specs.Inner.Fresh.{IsFreshBatch, IsFreshMember, IsFreshHead, IsFreshReading, Fresh}
@@ -132,11 +132,12 @@ pub record Follows (durable : List Commit) (old new : Member) : Type 0 where
   pub asked : old.protocol.request ≤ new.protocol.request
   pub heads : (request version : ℕ) → IsFreshHead old request version → IsFreshHead new request version
 
--- a replica with other known frames or waiting queries, or one that is broken
-pub alike : (durable : List Commit) (number : ℕ) (m : Member) (known : List (List ℕ)) (waiting : List Plan) (broken : Bool)
-    → IsFreshMember durable number m
-    → Follows durable m (record m { known = known; protocol = record m.protocol { waiting = waiting; broken = broken } })
-alike durable number m known waiting broken h = record {
+-- a replica with other known frames and pieces or waiting queries, or one that is broken
+pub alike : (durable : List Commit) (number : ℕ) (m : Member) (known : List (List ℕ)) (pieces : KnownPieces) (waiting : List Plan)
+    (broken : Bool) → IsFreshMember durable number m
+    → Follows durable m
+    (record m { known = known; pieces = pieces; protocol = record m.protocol { waiting = waiting; broken = broken } })
+alike durable number m known pieces waiting broken h = record {
   number_is = refl;
   below = h.below;
   boots_are = refl;
@@ -149,7 +150,7 @@ alike durable number m known waiting broken h = record {
 -- a replica that goes to the version that was fetched for its batch
 pub moved : (durable : List Commit) (number : ℕ) (m : Member) (batch : Batch) (fetched : Fetched) → IsFreshMember durable number m
     → m.protocol.batch ≡ Some batch → batch.fetched ≡ Some fetched
-    → Follows durable m (record m { protocol = record m.protocol { version = fetched.version } })
+    → Follows durable m (caught_up m fetched m.protocol.batch)
 moved durable number m batch fetched h has is =
     let fresh = h.batch_is batch has in
     let found = fresh.fetched_is fetched is in

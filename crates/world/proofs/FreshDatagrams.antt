@@ -17,9 +17,9 @@ use Rattle.world.specs.Steps.{World, Member}
 use Rattle.world.specs.Inner.Fresh.{IsFreshHead, IsFreshReading, Fresh}
 use Rattle.world.specs.Inner.StepLaws.{StepLaws}
 use Rattle.world.proofs.Boots.{of-boot}
-use Rattle.world.proofs.Datagrams.{ask-read, ask-kept, frame-reads, head-reads, want-reads}
+use Rattle.world.proofs.Datagrams.{ask-read, ask-kept, frame-reads, head-reads, want-reads, pull-reads}
 use Rattle.world.proofs.Pieces.{pulled-read}
-use Rattle.world.proofs.WorldMoves.{ask_bytes, own_head, WasSent, AreSent, framed, answered, repeated, asked_for}
+use Rattle.world.proofs.WorldMoves.{ask_bytes, own_head, WasSent, AreSent, framed, answered, repeated, asked_for, pulled_for}
 
 -- what was sent is fresh, and so is what is no datagram
 pub told-fresh : (w : World) (read : Result Datagram WireFault) → Fresh w → WasSent w read → IsFreshReading w.primary.durable w.members read
@@ -103,6 +103,10 @@ sent-fresh laws w more h (repeated i m here) = (
 )
 sent-fresh laws w more h (asked_for number worker from) = (
   want-reads (IsFreshReading w.primary.durable w.members) (λ fault. tt) (λ replica worker from. tt) number worker from,
+  tt,
+)
+sent-fresh laws w more h (pulled_for number base from) = (
+  pull-reads (IsFreshReading w.primary.durable w.members) (λ fault. tt) (λ replica base from. tt) number base from,
   tt,
 )
 

@@ -13,7 +13,7 @@ use Rattle.script.specs.declared.output.Output.{Output}
 use Rattle.script.specs.declared.output.Output.TheVariants as outputs
 use Rattle.world.specs.Outputs.{of_commit}
 use Rattle.world.specs.Theorem.{SaysRows}
-use Rattle.world.specs.Steps.{World, Member, with_member}
+use Rattle.world.specs.Steps.{World, Member, KnownPieces, none_known, with_member, caught_up}
 use Rattle.world.specs.Allowed.{MayHappen}
 use Rattle.world.specs.Inner.Fresh.{IsFreshBatch, IsFreshMember, Fresh, HasBoot}
 use Rattle.world.specs.Inner.StepLaws.{StepLaws}
@@ -23,9 +23,9 @@ use Rattle.world.proofs.Restarts.{never-had, Fresh-restarted}
 use Rattle.world.proofs.Fresh.{Fresh-transactions, Fresh-committed, Fresh-flushed, Fresh-based, Fresh-stopped, Fresh-started, Fresh-sent}
 use Rattle.world.proofs.Fresh.{Fresh-member, Follows, alike, moved}
 use Rattle.world.proofs.FreshDatagrams.{ask-fresh, sent-fresh, fetched-fresh}
-use Rattle.world.proofs.WorldMoves.{ask_bytes, new_batch, IsSilent, commit-silent, Change, hears, opens, fetches, reports, moves, breaks}
-use Rattle.world.proofs.WorldMoves.{restarts, Move, idle, dumps, begins, changes, ends, refuses, commits, flushes, bases, stops, starts}
-use Rattle.world.proofs.WorldMoves.{sends, asks, becomes, step-moves}
+use Rattle.world.proofs.WorldMoves.{ask_bytes, new_batch, renewed_batch, IsSilent, commit-silent, Change, hears, opens, fetches, reports}
+use Rattle.world.proofs.WorldMoves.{moves, breaks, restarts, Move, idle, dumps, begins, changes, ends, refuses, commits, flushes, bases}
+use Rattle.world.proofs.WorldMoves.{stops, starts, sends, asks, renews, becomes, step-moves}
 
 -- what a step is to be
 pub record Serves (old : World) (event : Event) (answer : Output × World) : Type 0 where
@@ -57,10 +57,29 @@ new-follows w m below = record {
   };
 }
 
+-- the version that was fetched for a batch is given up, and no Head of the new request was sent
+renewed-follows : (w : World) (m : Member) (number : ℕ) (plans : List Plan) (fetched : Fetched)
+    → IsFreshMember w.primary.durable number m → m.protocol.batch ≡ Some (record { plans = plans; fetched = Some fetched })
+    → Follows w.primary.durable m (renewed_batch m plans)
+renewed-follows w m number plans fetched is has = record {
+  number_is = refl;
+  below = is.below;
+  boots_are = refl;
+  boot_is = refl;
+  batch_is = λ batch now. subst (IsFreshBatch w.primary.durable m.protocol.version m.asked_at) (same_Some _ batch now)
+      (record { asked = (is.batch_is _ has).asked; fetched_is = λ fetched this. absurd (none-some fetched this) });
+  asked = omega arith;
+  heads = λ request version head. let asked = head.asked in record {
+    asked = omega arith;
+    above = λ batch now same. absurd (omega arith);
+    on = λ batch now none same. absurd (omega arith);
+  };
+}
+
 -- the batch is over, at the version that was fetched for it
-done-follows : (w : World) (i : ℕ) (m : Member) (version : ℕ) → version ≤ length w.primary.durable
-    → Follows w.primary.durable m (record m { protocol = record m.protocol { version = version; batch = None } })
-done-follows w i m version below = record {
+done-follows : (w : World) (i : ℕ) (m : Member) (fetched : Fetched) → fetched.version ≤ length w.primary.durable
+    → Follows w.primary.durable m (caught_up m fetched None)
+done-follows w i m fetched below = record {
   number_is = refl;
   below = below;
   boots_are = refl;
@@ -75,11 +94,14 @@ done-follows w i m version below = record {
 }
 
 -- a version is fetched for the batch
-head-follows : (durable : List Commit) (number : ℕ) (m : Member) (plans : List Plan) (came : Fetched)
+head-follows : (durable : List Commit) (number : ℕ) (m : Member) (plans : List Plan) (pieces : KnownPieces) (came : Fetched)
     → IsFreshMember durable number m → m.protocol.batch ≡ Some (record { plans = plans; fetched = None })
     → (m.protocol.version ≤ came.version) × (m.asked_at ≤ came.version) × (came.version ≤ length durable)
-    → Follows durable m (record m { protocol = record m.protocol { batch = Some (record { plans = plans; fetched = Some came }) } })
-head-follows durable number m plans came is has serves = record {
+    → Follows durable m (record m {
+      pieces = pieces;
+      protocol = record m.protocol { batch = Some (record { plans = plans; fetched = Some came }) };
+    })
+head-follows durable number m plans pieces came is has serves = record {
   number_is = refl;
   below = is.below;
   boots_are = refl;
@@ -107,26 +129,28 @@ module _ (w : World) (event : Event) (h : Fresh w) (i : ℕ) (m : Member) (here 
   serving plans fetched has = ((h.members_are i m here).batch_is _ has).fetched_is fetched refl
 
   change_fresh : (output : Output) (new : Member) → HasBoot event → Change w event i m output new → Fresh (with_member w new)
-  change_fresh output new boots (hears answer known is) =
-      Fresh-member w i m new h here (alike w.primary.durable i m known m.protocol.waiting m.protocol.broken (h.members_are i m here))
+  change_fresh output new boots (hears answer known pieces is) =
+      Fresh-member w i m new h here
+      (alike w.primary.durable i m known pieces m.protocol.waiting m.protocol.broken (h.members_are i m here))
   change_fresh output new boots (opens plan) =
       Fresh-member w i m new h here
-      (alike w.primary.durable i m m.known (m.protocol.waiting ++ plan ∷ []) m.protocol.broken (h.members_are i m here))
-  change_fresh output new boots (fetches plans head has sent) =
+      (alike w.primary.durable i m m.known m.pieces (m.protocol.waiting ++ plan ∷ []) m.protocol.broken (h.members_are i m here))
+  change_fresh output new boots (fetches plans head pieces has sent) =
       Fresh-member w i m new h here
-      (head-follows w.primary.durable i m plans (fetched_by head) (h.members_are i m here) has
+      (head-follows w.primary.durable i m plans pieces (fetched_by head) (h.members_are i m here) has
       (fetched-fresh w i m plans head h here has sent))
   change_fresh output new boots (reports plans fetched is has) =
-      Fresh-member w i m new h here (done-follows w i m fetched.version (serving plans fetched has).2)
+      Fresh-member w i m new h here (done-follows w i m fetched (serving plans fetched has).2)
   change_fresh output new boots (moves plans fetched has) =
       Fresh-member w i m new h here (moved w.primary.durable i m _ fetched (h.members_are i m here) has refl)
   change_fresh output new boots breaks =
-      Fresh-member w i m new h here (alike w.primary.durable i m m.known m.protocol.waiting true (h.members_are i m here))
+      Fresh-member w i m new h here
+      (alike w.primary.durable i m m.known (none_known m.pieces.base) m.protocol.waiting true (h.members_are i m here))
   change_fresh output new boots (restarts boot is never) =
       Fresh-restarted w i boot m h here (never-had m.boots boot never) (subst HasBoot is boots)
 
   change_rows : (output : Output) (new : Member) → Change w event i m output new → SaysRows w.primary.durable w event output
-  change_rows output new (hears answer known is) = no-rows w.primary.durable w event answer is.0
+  change_rows output new (hears answer known pieces is) = no-rows w.primary.durable w event answer is.0
   change_rows output new (reports plans fetched is has) =
       let serves = serving plans fetched has in
       (i, m, _, is, here, has, (fetched, refl, serves.1, serves.2, refl))
@@ -151,6 +175,16 @@ move-fresh laws w event output new boots h (asks i m here none) =
     let next = new_batch w m in
     Fresh-sent (with_member w next) (ask_bytes m (m.protocol.request + 1) ∷ [])
     (Fresh-member w i m next h here (new-follows w m (h.members_are i m here).below)) (
+      ask-fresh laws w (slice_set w.members m.protocol.number next) i m (m.protocol.request + 1) h here (λ other there.
+          let same = get-set_same w.members m.protocol.number next other there in
+          let asked = ap (λ (x : Member). x.protocol.request) same in
+          (ap (λ (x : Member). x.boots) same, omega arith)),
+      tt,
+    )
+move-fresh laws w event output new boots h (renews i m plans fetched is here has) =
+    let next = renewed_batch m plans in
+    Fresh-sent (with_member w next) (ask_bytes m (m.protocol.request + 1) ∷ [])
+    (Fresh-member w i m next h here (renewed-follows w m i plans fetched (h.members_are i m here) has)) (
       ask-fresh laws w (slice_set w.members m.protocol.number next) i m (m.protocol.request + 1) h here (λ other there.
           let same = get-set_same w.members m.protocol.number next other there in
           let asked = ap (λ (x : Member). x.protocol.request) same in

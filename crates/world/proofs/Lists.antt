@@ -1,5 +1,5 @@
 -- What stands at an index of a list after one more element, or one changed.
-use Rattle.std.proofs.Common.{◌≡◌, ℕ, zero, suc, List, [], ◌∷◌, ◌++◌, Some, refl, sym, ap, ◌⊎◌, inl, inr}
+use Rattle.std.proofs.Common.{◌≡◌, ℕ, zero, suc, List, [], ◌∷◌, ◌++◌, take, Some, refl, sym, ap, ◌⊎◌, inl, inr}
 use Rattle.std.specs.List.{slice_get, slice_set, AllByRecursion}
 
 -- a list with what stands at an index put there again
@@ -42,6 +42,11 @@ All-append P (x ∷ xs) ys h k = (h.0, All-append P xs ys h.1 k)
 pub All-left : {A : Type 0} (P : A → Type 0) (xs ys : List A) → AllByRecursion P (xs ++ ys) → AllByRecursion P xs
 All-left P [] ys h = tt
 All-left P (x ∷ xs) ys h = (h.0, All-left P xs ys h.1)
+
+pub All-front : {A : Type 0} (P : A → Type 0) (count : ℕ) (xs : List A) → AllByRecursion P xs → AllByRecursion P (take count xs)
+All-front P zero xs h = tt
+All-front P (suc count) [] h = tt
+All-front P (suc count) (x ∷ xs) h = (h.0, All-front P count xs h.1)
 
 -- what was put at an index is there
 pub get-set_same : {A : Type 0} (xs : List A) (i : ℕ) (x y : A) → slice_get (slice_set xs i x) i ≡ Some y → y ≡ x

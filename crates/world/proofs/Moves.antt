@@ -1,15 +1,13 @@
 -- The few moves of sound parts, each of which leaves them sound.
-use Rattle.std.proofs.Common.{◌≡◌, ℕ, ◌≤◌, Bool, List, [], ◌∷◌, ◌++◌, length, Option, Some, Result, Ok, Err, sym, ap}
+use Rattle.std.proofs.Common.{◌≡◌, ℕ, ◌≤◌, Bool, List, [], ◌∷◌, ◌++◌, length, Option, Some, sym, ap}
 use Rattle.std.proofs.Common.{subst, ◌∙◌, inl, inr, arith}
 use Rattle.std.specs.List.{slice_get}
 use Rattle.std.proofs.lemmas.List.{length-append, length-set}
 use Rattle.rows.specs.declared.commit.Commit.{Commit}
+use Rattle.rows.specs.ImageLaws.{AreSpelled}
 use Rattle.rows.specs.Shape.{Shape}
 use Rattle.rows.specs.Commits.{IsLegal}
 use Rattle.journal.specs.declared.form.Form.{Form}
-use Rattle.wire.specs.declared.datagram.Datagram.{Datagram}
-use Rattle.wire.specs.declared.datagram.Datagram.TheVariants as datagrams
-use Rattle.wire.specs.declared.faults.WireFault.{WireFault}
 use Rattle.wire.specs.Reading.{reading}
 use Rattle.mvcc.specs.Transaction.{Transaction}
 use Rattle.dispatcher.specs.Feeding.{IsFedFrom, Tells, identity_of}
@@ -23,7 +21,6 @@ use Rattle.world.proofs.Lists.{get-set, get-append, get-one, set-same}
 use Rattle.world.specs.Inner.Boots.{IsInBoot}
 use Rattle.world.specs.Inner.Sound.{Sound, IsFed}
 use Rattle.world.specs.Standing.{boots_at, world_of}
-use Rattle.world.proofs.Durable.{frame-stays, counts-stay}
 use Rattle.world.proofs.FedLaws.{FedLaws}
 use Rattle.world.proofs.Worlds.{seen}
 
@@ -42,10 +39,10 @@ goes-fed : (shape : Shape) (names : List (List ℕ)) (workers : ℕ) (durable : 
     → IsFed shape names workers durable boots i old → Goes shape durable old new → IsFed shape names workers durable boots i new
 goes-fed shape names workers durable boots i old new fed goes = record {
   feeding = goes.feeding;
-  names_are = ap (λ (x : List (List ℕ) × ℕ × ℕ × ℕ). x.0) goes.identity ∙ fed.names_are;
-  workers_are = ap (λ (x : List (List ℕ) × ℕ × ℕ × ℕ). x.1) goes.identity ∙ fed.workers_are;
-  number_is = ap (λ (x : List (List ℕ) × ℕ × ℕ × ℕ). x.2) goes.identity ∙ fed.number_is;
-  boot_is = subst (λ (x : List (List ℕ) × ℕ × ℕ × ℕ). IsInBoot boots x.3) (sym goes.identity) fed.boot_is;
+  names_are = ap (λ (x : List (List ℕ) × Shape × ℕ × ℕ × ℕ). x.0) goes.identity ∙ fed.names_are;
+  workers_are = ap (λ (x : List (List ℕ) × Shape × ℕ × ℕ × ℕ). x.2) goes.identity ∙ fed.workers_are;
+  number_is = ap (λ (x : List (List ℕ) × Shape × ℕ × ℕ × ℕ). x.3) goes.identity ∙ fed.number_is;
+  boot_is = subst (λ (x : List (List ℕ) × Shape × ℕ × ℕ × ℕ). IsInBoot boots x.4) (sym goes.identity) fed.boot_is;
 }
 
 pub Sound-replica : (shape : Shape) (p : Cores) (i : ℕ) (old new : Replica) → Sound shape p → slice_get p.replicas i ≡ Some old
@@ -92,7 +89,7 @@ Sound-noted shape p asked_at sound same = record {
 
 pub Sound-sent : (shape : Shape) (p : Cores) (more : List (List ℕ)) → Sound shape p
     → ((i : ℕ) (bytes : List ℕ) → slice_get more i ≡ Some bytes
-    → Tells p.primary.workers p.primary.durable (reading bytes))
+    → Tells shape p.primary.workers p.primary.durable (reading bytes))
     → Sound shape (record p { sent = p.sent ++ more })
 Sound-sent shape p more sound means = record {
   setup_is = sound.setup_is;
@@ -108,11 +105,11 @@ Sound-sent shape p more sound means = record {
 }
 
 pub Sound-one : (shape : Shape) (p : Cores) (bytes : List ℕ) → Sound shape p
-    → Tells p.primary.workers p.primary.durable (reading bytes)
+    → Tells shape p.primary.workers p.primary.durable (reading bytes)
     → Sound shape (with_sent p bytes)
 Sound-one shape p bytes sound means =
     Sound-sent shape p (bytes ∷ []) sound
-    (λ i other here. subst (λ (bytes : List ℕ). Tells p.primary.workers p.primary.durable (reading bytes))
+    (λ i other here. subst (λ (bytes : List ℕ). Tells shape p.primary.workers p.primary.durable (reading bytes))
     (sym (get-one bytes i other here)) means)
 
 -- ---- transactions
@@ -153,11 +150,11 @@ Sound-pending shape p pending sound = record {
 
 fed-grows : (laws : FedLaws) (shape : Shape) (names : List (List ℕ)) (workers : ℕ) (durable more : List Commit) (boots : List ℕ)
     (i : ℕ) (r : Replica)
-    → IsLegal shape workers (durable ++ more) → IsFed shape names workers durable boots i r
+    → IsLegal shape workers (durable ++ more) → AreSpelled (durable ++ more) → IsFed shape names workers durable boots i r
     → IsFed shape names workers (durable ++ more) boots i r
-fed-grows laws shape names workers durable more boots i r legal fed = record {
+fed-grows laws shape names workers durable more boots i r legal spelled fed = record {
   feeding =
-      laws.commits shape durable more r (subst (λ (n : ℕ). IsLegal shape n (durable ++ more)) (sym fed.workers_are) legal)
+      laws.commits shape durable more r (subst (λ (n : ℕ). IsLegal shape n (durable ++ more)) (sym fed.workers_are) legal) spelled
       fed.feeding;
   names_are = fed.names_are;
   workers_are = fed.workers_are;
@@ -165,23 +162,11 @@ fed-grows laws shape names workers durable more boots i r legal fed = record {
   boot_is = fed.boot_is;
 }
 
-tells-stay : (workers : ℕ) (durable more : List Commit) (datagram : Result Datagram WireFault) → Tells workers durable datagram
-    → Tells workers (durable ++ more) datagram
-tells-stay workers durable more (Err fault) h = tt
-tells-stay workers durable more (Ok (datagrams.Frame worker seq commit last entries)) h = frame-stays durable more worker seq _ h
-tells-stay workers durable more (Ok (datagrams.Ask replica boot request)) h = tt
-tells-stay workers durable more (Ok (datagrams.Head head)) h =
-    let below = h.0 in
-    (omega (arith, length-append durable more), h.1, counts-stay durable more head.version head.counts h.0 h.2)
-tells-stay workers durable more (Ok (datagrams.Want replica worker from)) h = tt
-tells-stay workers durable more (Ok (datagrams.Piece base number last entries)) h = tt
-tells-stay workers durable more (Ok (datagrams.Pull replica base from)) h = tt
-
 -- what is durable grows, and other commits are pending behind it
 pub Sound-grown : (laws : FedLaws) (shape : Shape) (p : Cores) (more pending : List Commit)
-    → IsLegal shape p.primary.workers (p.primary.durable ++ more) → Sound shape p
+    → IsLegal shape p.primary.workers (p.primary.durable ++ more) → AreSpelled (p.primary.durable ++ more) → Sound shape p
     → Sound shape (record p { primary = record p.primary { durable = p.primary.durable ++ more; pending = pending } })
-Sound-grown laws shape p more pending legal sound =
+Sound-grown laws shape p more pending legal spelled sound =
     let durable = p.primary.durable in
     let workers = p.primary.workers in
     record {
@@ -199,8 +184,8 @@ Sound-grown laws shape p more pending legal sound =
       few = sound.few;
       fed =
           λ i r here. fed-grows laws shape (names_of p.primary.schema) workers durable more (boots_at p.boots i) i r legal
-          (sound.fed i r here);
-      sent_is = λ i bytes here. tells-stay workers durable more (reading bytes) (sound.sent_is i bytes here);
+          spelled (sound.fed i r here);
+      sent_is = λ i bytes here. laws.truth shape workers durable more (reading bytes) (sound.sent_is i bytes here);
     }
 
 -- the primary fails, stops or starts, or its base or its journal changes

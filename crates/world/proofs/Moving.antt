@@ -1,6 +1,7 @@
 -- What the calls of the cores answer and leave is what an event may.
-use Rattle.std.proofs.Common.{◌≡◌, ℕ, ◌⊎◌, inl, inr, List, Option, None, Some, Result, Ok, Err, IsOk, slice_get, slice_set, refl, ap, sym}
-use Rattle.std.proofs.Common.{subst, ◌∙◌, Bool, true, false, cond, OnOk, IfErr, length, ◌==◌, ◌++◌, nat_lt}
+use Rattle.std.proofs.Common.{◌≡◌, ℕ, ◌⊎◌, inl, inr, List, [], ◌∷◌, Option, None, Some, Result, Ok, Err, IsOk, slice_get, slice_set, refl}
+use Rattle.std.proofs.Common.{ap, sym, subst, ◌∙◌, Bool, true, false, cond, OnOk, IfErr, length, ◌==◌, ◌++◌, nat_lt}
+use Rattle.std.specs.Result.{is_ok}
 use Rattle.std.proofs.lemmas.Bool.{false≢true, true≢false}
 use Rattle.std.proofs.lemmas.List.{set-set}
 use Rattle.rows.specs.declared.value.Value.{Value}
@@ -22,12 +23,13 @@ use Rattle.queries.specs.declared.plan.Plan.{Plan}
 use Rattle.dispatcher.specs.declared.outcome.Run.{Run}
 use Rattle.dispatcher.specs.declared.outcome.Run.TheVariants as runs
 use Rattle.dispatcher.specs.State.{Replica}
-use Rattle.dispatcher.specs.Protocol.{Readiness, Broken, NoBatch, WaitsForHead, WaitsForFrame, Ready}
-use Rattle.dispatcher.specs.Steps.{opened, asked, readiness_of, MayRun, RunsAs}
+use Rattle.dispatcher.specs.Protocol.{Readiness, Broken, NoBatch, WaitsForHead, WaitsForPiece, WaitsForFrame, Ready}
+use Rattle.dispatcher.specs.Steps.{opened, asked, renewed, readiness_of, MayRun, RunsAs}
 use Rattle.script.specs.declared.event.Event.{Event}
 use Rattle.script.specs.declared.event.Event.TheVariants as events
 use Rattle.script.specs.declared.output.Output.{Output}
 use Rattle.script.specs.declared.output.Output.TheVariants as outputs
+use Rattle.script.specs.declared.sent.Sent.{Sent}
 use Rattle.world.specs.Outputs.{of_change, of_commit, of_look, of_open, of_ask}
 use Rattle.world.specs.Allowed.{takes_memory, asks_for_memory}
 use Rattle.world.specs.Inner.Naming.{of_changed}
@@ -36,7 +38,8 @@ use Rattle.world.specs.Standing.{world_of}
 use Rattle.world.specs.Steps.{World, unless_stopped, open_transaction, happens, on_transaction, change_happens, commit_happens}
 use Rattle.world.specs.Steps.{abort_happens}
 use Rattle.world.specs.Inner.CoreSteps.{HappensBeside, MayStep, ReplicaRunsBy, with_replica, with_sent, opening_query, open_by, asking}
-use Rattle.world.specs.Inner.CoreSteps.{ask_by, run_output, waiting_for, ChangesTransaction, change_answer}
+use Rattle.world.specs.Inner.CoreSteps.{ask_by, renew_by, renewing, run_output, waiting_for, waiting_for_piece, ChangesTransaction}
+use Rattle.world.specs.Inner.CoreSteps.{change_answer}
 use Rattle.world.proofs.Slots.{set_same, slot_same}
 
 -- ---- a commit
@@ -346,26 +349,25 @@ module _ (p old : Cores) (seen : p ≡ old) (running : p.stopped ≡ false) (num
 -- ---- a run that waits
 
 abbrev is_waiting : Run → Bool
+is_waiting (runs.WaitingPiece number pull) = true
 is_waiting (runs.Waiting worker seq want) = true
 is_waiting other = false
 
--- a replica that waits for a frame is as it was
-waits_same : (old new : Replica) (worker seq : ℕ) (want : Out) → MayRun old (runs.Waiting worker seq want) new → new ≡ old
-waits_same old new worker seq want (inl run) = by (readiness_of old) run
+-- a replica that waits for a piece or a frame is as it was
+waits_same : (old new : Replica) (answer : Run) → is_waiting answer ≡ true → MayRun old answer new → new ≡ old
+waits_same old new answer waits (inl run) = by (readiness_of old) run
   where
-    answer : Run
-    answer = runs.Waiting worker seq want
-
     by : (found : Readiness) → RunsAs found old answer new → new ≡ old
+    by (WaitsForPiece base number) told = told.1
     by (WaitsForFrame other from) told = told.1
-    by (Ready plans fetched) (inl ends) = absurd (true≢false (ap is_waiting ends.2))
-    by (Ready plans fetched) (inr ends) = absurd (true≢false (ap is_waiting ends.1))
+    by (Ready plans fetched) (inl ends) = absurd (true≢false (sym waits ∙ ap is_waiting ends.2))
+    by (Ready plans fetched) (inr ends) = absurd (true≢false (sym waits ∙ ap is_waiting ends.1))
     by Broken told = told.1
     by NoBatch told = told.1
     by WaitsForHead told = told.1
-waits_same old new worker seq want (inr lacks) = elim lacks.2 [
-  | inl memory ↦ absurd (true≢false (ap is_waiting memory.0))
-  | inr broken ↦ absurd (true≢false (ap is_waiting broken.0))
+waits_same old new answer waits (inr lacks) = elim lacks.2 [
+  | inl memory ↦ absurd (true≢false (sym waits ∙ ap is_waiting memory.0))
+  | inr broken ↦ absurd (true≢false (sym waits ∙ ap is_waiting broken.0))
 ]
 
 -- ---- calls on a replica
@@ -408,6 +410,35 @@ module _ (p old : Cores) (seen : p ≡ old) (number : ℕ) where
         subst (λ x. MayStep x (events.Ask number) (of_ask fault) x) seen
         (inl (ap (ask_by p number) at ∙ ap (asking p number before.batch) refused))
 
+    -- a renewal that is refused
+    pub renew_told : (fault : AskFault) → (after ≡ before) × (renewed before ≡ Err fault)
+        → MayStep old (events.Renew number) (of_ask fault) (with_replica p number after)
+    renew_told fault refused =
+        subst (λ x. MayStep x (events.Renew number) (of_ask fault) (with_replica p number after)) seen
+        (inl (ap (renew_by p number) at ∙ ap (renewing p number) refused.1 ∙ ap (λ x. (of_ask fault, x)) (replica_same refused.0)))
+
+    -- one for which there is no memory
+    pub renew_lacks : is_ok (renewed before) ≡ true → (new : Cores) → new ≡ old → MayStep old (events.Renew number) outputs.Memory new
+    renew_lacks taken new same = inr (
+      refl,
+      same,
+      subst (λ (x : Cores). TakesMemory (renew_by x number (slice_get x.replicas number)).0) seen
+          (subst (λ (found : Option Replica). TakesMemory (renew_by p number found).0) (sym at) (by (renewed before) taken)),
+    )
+      where
+        by : (answer : Result (Out × Replica) AskFault) → is_ok answer ≡ true → TakesMemory (renewing p number answer).0
+        by (Ok done) ok = refl
+        by (Err fault) ok = absurd (false≢true ok)
+
+    -- and one that is sent
+    pub renew_sent : (out : Out) (list : List Sent) (sent : List (List ℕ)) → renewed before ≡ Ok (out, after)
+        → list ≡ record { index = length p.sent; len = length out.packet } ∷ [] → sent ≡ p.sent ++ out.packet ∷ []
+        → MayStep old (events.Renew number) (outputs.Sent list) (record (with_replica p number after) { sent = sent })
+    renew_sent out list sent taken list_is sent_is =
+        subst (λ x. MayStep x (events.Renew number) (outputs.Sent list) (record (with_replica p number after) { sent = sent })) seen
+        (inl (ap (renew_by p number) at ∙ ap (renewing p number) taken
+        ∙ (λ i. (outputs.Sent (sym list_is i), record (with_replica p number after) { sent = sym sent_is i }))))
+
     -- what a run answers and leaves
     pub ran : (answer : Run) → MayRun before answer after
         → MayStep old (events.Run number) (run_output p number (answer, after)).0 (run_output p number (answer, after)).1
@@ -417,22 +448,34 @@ module _ (p old : Cores) (seen : p ≡ old) (number : ℕ) where
         subst (λ x. MayStep x (events.Run number) output new) seen
         (subst (λ (found : Option Replica). ReplicaRunsBy p number found output new) (sym at) (answer, after, may, inl refl))
 
-    -- a run that waits for a frame has changed nothing, so that its Want may lack memory
-    pub run_waits : (worker seq : ℕ) (want : Out) → MayRun before (runs.Waiting worker seq want) after → (output : Output) (new : Cores)
-        → ((output ≡ waiting_for p worker seq want.packet) × (new ≡ with_sent (with_replica p number after) want.packet))
+    -- a run that waits has changed nothing, so that what it sends may lack memory
+    waits_told : (answer : Run) → is_waiting answer ≡ true → TakesMemory (run_output p number (answer, after)).0
+        → MayRun before answer after → (output : Output) (new : Cores)
+        → ((output ≡ (run_output p number (answer, after)).0) × (new ≡ (run_output p number (answer, after)).1))
         ⊎ ((output ≡ outputs.Memory) × (new ≡ with_replica p number after))
         → MayStep old (events.Run number) output new
-    run_waits worker seq want may output new wants =
-        let answer = runs.Waiting worker seq want in
+    waits_told answer waits takes may output new sends =
         subst (λ x. MayStep x (events.Run number) output new) seen
         (subst (λ (found : Option Replica). ReplicaRunsBy p number found output new) (sym at) (
           answer,
           after,
           may,
-          elim wants [
+          elim sends [
             | inl sent ↦
-                let same : ◌≡◌ {A = Output × Cores} (output, new) (run_output p number (answer, after)) = cc (sent.0, sent.1) in
+                let same : ◌≡◌ {A = Output × Cores} (output, new) (run_output p number (answer, after)) = λ i. (sent.0 i, sent.1 i) in
                 inl (sym same)
-            | inr lacks ↦ inr (lacks.0, lacks.1 ∙ sym (replica_same (waits_same before after worker seq want may)), refl)
+            | inr lacks ↦ inr (lacks.0, lacks.1 ∙ sym (replica_same (waits_same before after answer waits may)), takes)
           ],
         ))
+
+    pub run_waits : (worker seq : ℕ) (want : Out) → MayRun before (runs.Waiting worker seq want) after → (output : Output) (new : Cores)
+        → ((output ≡ waiting_for p worker seq want.packet) × (new ≡ with_sent (with_replica p number after) want.packet))
+        ⊎ ((output ≡ outputs.Memory) × (new ≡ with_replica p number after))
+        → MayStep old (events.Run number) output new
+    run_waits worker seq want = waits_told (runs.Waiting worker seq want) refl refl
+
+    pub run_waits_piece : (piece : ℕ) (pull : Out) → MayRun before (runs.WaitingPiece piece pull) after → (output : Output) (new : Cores)
+        → ((output ≡ waiting_for_piece p piece pull.packet) × (new ≡ with_sent (with_replica p number after) pull.packet))
+        ⊎ ((output ≡ outputs.Memory) × (new ≡ with_replica p number after))
+        → MayStep old (events.Run number) output new
+    run_waits_piece piece pull = waits_told (runs.WaitingPiece piece pull) refl refl

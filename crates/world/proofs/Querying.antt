@@ -1,4 +1,4 @@
--- Opening a query and asking for a version do at a replica of sound parts what they do at its member.
+-- Opening a query, asking for a version and renewing do at a replica of sound parts what they do at its member.
 use Rattle.std.proofs.Common.{◌≡◌, ℕ, ◌+◌, ◌^◌, ◌<◌, Bool, true, false, cond, ◌==◌, List, [], ◌∷◌, ◌++◌, length, Option, Some}
 use Rattle.std.proofs.Common.{None, Result, Ok, Err, nat_le, refl, sym, ap, subst, ◌∙◌, arith}
 use Rattle.std.specs.List.{slice_get, slice_set}
@@ -24,20 +24,20 @@ use Rattle.dispatcher.specs.declared.faults.AskFault.{AskFault}
 use Rattle.dispatcher.specs.declared.faults.AskFault.TheVariants as asks
 use Rattle.dispatcher.specs.Feeding.{Tells}
 use Rattle.dispatcher.specs.State.{Replica, Batch, Fetched, Protocol, protocol_of, with_protocol}
-use Rattle.dispatcher.specs.Protocol.{opens_checked, opens_query, ask_for, with_batch, asks_by, asks_version}
+use Rattle.dispatcher.specs.Protocol.{opens_checked, opens_query, ask_for, with_batch, asks_by, asks_version, renews_by, renews_version}
 use Rattle.dispatcher.specs.TableText.{names_of}
-use Rattle.dispatcher.specs.Steps.{stepped, opened, asked}
+use Rattle.dispatcher.specs.Steps.{stepped, opened, asked, renewed}
 use Rattle.script.specs.declared.output.Output.{Output}
 use Rattle.script.specs.declared.output.Output.TheVariants as outputs
 use Rattle.world.specs.Cores.{Cores}
-use Rattle.world.specs.Inner.CoreSteps.{with_replica, with_sent, open_by, opening_query, ask_by, asking, sent_one}
-use Rattle.world.specs.Steps.{World, Member, open_happens, ask_happens, send, on_member, durable_tables}
+use Rattle.world.specs.Inner.CoreSteps.{with_replica, with_sent, open_by, opening_query, ask_by, asking, renew_by, renewing, sent_one}
+use Rattle.world.specs.Steps.{World, Member, open_happens, ask_happens, renew_happens, send, on_member, durable_tables}
 use Rattle.world.proofs.Lists.{set-same}
 use Rattle.world.specs.Inner.Sound.{Sound, IsFed}
 use Rattle.world.proofs.FedLaws.{FedLaws}
 use Rattle.world.proofs.Datagrams.{ask-read}
 use Rattle.world.specs.Standing.{boots_at, world_of, member_of}
-use Rattle.world.proofs.Worlds.{member_at, members-asked}
+use Rattle.world.proofs.Worlds.{member_at, member-changes, members-asked}
 use Rattle.world.proofs.Moves.{Goes, Follows, Sound-replica, Sound-noted, Sound-one}
 use Rattle.world.proofs.Replicas.{Follows-goes}
 
@@ -97,10 +97,10 @@ query-opens laws shape p i plan (Some r) sound here =
 -- ---- asking
 
 -- an Ask says nothing of the list
-ask-tells : (reads : SpelledAreRead) (workers : ℕ) (durable : List Commit) (number boot request : ℕ) → number < REPLICAS_MAX
-    → boot < 2 ^ 64 → Tells workers durable (reading (spelling (datagrams.Ask number boot request)))
-ask-tells reads workers durable number boot request number_below boot_below =
-    subst (Tells workers durable) (sym (ask-read reads number boot request number_below boot_below)) tt
+ask-tells : (reads : SpelledAreRead) (shape : Shape) (workers : ℕ) (durable : List Commit) (number boot request : ℕ)
+    → number < REPLICAS_MAX → boot < 2 ^ 64 → Tells shape workers durable (reading (spelling (datagrams.Ask number boot request)))
+ask-tells reads shape workers durable number boot request number_below boot_below =
+    subst (Tells shape workers durable) (sym (ask-read reads number boot request number_below boot_below)) tt
 
 -- the number of a replica that is there
 number-below : (shape : Shape) (p : Cores) (i : ℕ) (r : Replica) → Sound shape p → slice_get p.replicas i ≡ Some r → r.number < REPLICAS_MAX
@@ -138,7 +138,7 @@ module _ (laws : FedLaws) (shape : Shape) (p : Cores) (i : ℕ) (r : Replica) (s
           Sound-one shape (record (with_replica p i begun) { asked_at = noted }) out.packet
               (Sound-noted shape (with_replica p i begun) noted (Sound-replica shape p i r begun sound here goes)
               (length-set p.asked_at i (length p.primary.durable)))
-              (ask-tells laws.steps.reads p.primary.workers p.primary.durable r.number r.boot (r.request + 1)
+              (ask-tells laws.steps.reads shape p.primary.workers p.primary.durable r.number r.boot (r.request + 1)
               (number-below shape p i r sound here) fed.boot_is.below),
         )
 
@@ -150,7 +150,7 @@ module _ (laws : FedLaws) (shape : Shape) (p : Cores) (i : ℕ) (r : Replica) (s
         ap (λ (replicas : List Replica). with_sent (record p { replicas = replicas }) bytes) (sym (set-same p.replicas i r here)) in (
           ap (λ (p' : Cores). (sent_one p bytes, world_of p')) same,
           subst (Sound shape) same (Sound-one shape p bytes sound
-              (ask-tells laws.steps.reads p.primary.workers p.primary.durable r.number r.boot r.request
+              (ask-tells laws.steps.reads shape p.primary.workers p.primary.durable r.number r.boot r.request
               (number-below shape p i r sound here) (sound.fed i r here).boot_is.below)),
         )
 
@@ -186,3 +186,55 @@ pub version-asked : (laws : FedLaws) (shape : Shape) (p : Cores) (i : ℕ) (foun
     (ask_by p i found)
 version-asked laws shape p i None sound here = (refl, sound)
 version-asked laws shape p i (Some r) sound here = asks-by laws shape p i r sound here r.broken r.batch refl
+
+-- ---- renewing
+
+module _ (laws : FedLaws) (shape : Shape) (p : Cores) (i : ℕ) (r : Replica) (sound : Sound shape p) (here : slice_get p.replicas i ≡ Some r)
+  where
+    abbrev given_up : Batch → Protocol
+    given_up batch = record (protocol_of r) {
+      request = r.request + 1;
+      batch = Some (record { plans = batch.plans; fetched = None });
+    }
+
+    renews-anew : (batch : Batch) → renewed r ≡ Ok (ask_for r.number r.boot (r.request + 1), with_protocol r (given_up batch))
+        → Follows shape (renew_happens (world_of p) (member_at p i r) (Ok (ask_for r.number r.boot (r.request + 1), given_up batch)))
+        (renewing p i (Ok (ask_for r.number r.boot (r.request + 1), with_protocol r (given_up batch))))
+    renews-anew batch taken =
+        let out = ask_for r.number r.boot (r.request + 1) in
+        let new = with_protocol r (given_up batch) in
+        let fed = sound.fed i r here in
+        let goes : Goes shape p.primary.durable r new =
+        record { feeding = laws.renewing shape p.primary.durable r out new fed.feeding taken; identity = refl } in (
+          ap (λ (w : World). (sent_one p out.packet, record w { sent = p.sent ++ out.packet ∷ [] }))
+              (member-changes p i new fed.number_is),
+          Sound-one shape (with_replica p i new) out.packet (Sound-replica shape p i r new sound here goes)
+              (ask-tells laws.steps.reads shape p.primary.workers p.primary.durable r.number r.boot (r.request + 1)
+              (number-below shape p i r sound here) fed.boot_is.below),
+        )
+
+    -- renewing, by its batch
+    renews-by : (broken : Bool) (batch : Option Batch)
+        → renewed r ≡ stepped r (cond broken (Err asks.Broken) (renews_by (protocol_of r) batch))
+        → Follows shape
+        (renew_happens (world_of p) (member_at p i r) (cond broken (Err asks.Broken) (renews_by (protocol_of r) batch)))
+        (renewing p i (stepped r (cond broken (Err asks.Broken) (renews_by (protocol_of r) batch))))
+    renews-by true batch is = (refl, sound)
+    renews-by false None is = (refl, sound)
+    renews-by false (Some batch) is = by batch.fetched is
+      where
+        step : Option Fetched → Result (Out × Protocol) AskFault
+        step fetched = renews_by (protocol_of r) (Some (record batch { fetched = fetched }))
+
+        by : (fetched : Option Fetched) → renewed r ≡ stepped r (step fetched)
+            → Follows shape (renew_happens (world_of p) (member_at p i r) (step fetched)) (renewing p i (stepped r (step fetched)))
+        by None is = (refl, sound)
+        by (Some fetched) is = renews-anew batch is
+
+pub version-renewed : (laws : FedLaws) (shape : Shape) (p : Cores) (i : ℕ) (found : Option Replica) → Sound shape p
+    → slice_get p.replicas i ≡ found
+    → Follows shape
+    (on_member (world_of p) (option_map (member_at p i) found) (λ m. renew_happens (world_of p) m (renews_version m.protocol)))
+    (renew_by p i found)
+version-renewed laws shape p i None sound here = (refl, sound)
+version-renewed laws shape p i (Some r) sound here = renews-by laws shape p i r sound here r.broken r.batch refl

@@ -15,7 +15,7 @@ use Rattle.world.specs.Allowed.{MayHappen}
 use Rattle.world.specs.Standing.{world_of, members_of}
 use Rattle.world.specs.Inner.Invariant.{IsReady, IsRequested, CoresAreKept}
 use Rattle.world.proofs.Slots.{all_at, all_set, all_weaker}
-use Rattle.world.proofs.WorldMoves.{ask_bytes, new_batch, Change, Move, restarts, sends, asks, becomes}
+use Rattle.world.proofs.WorldMoves.{ask_bytes, new_batch, renewed_batch, Change, Move, restarts, sends, asks, renews, becomes}
 use Rattle.world.proofs.WorldMoves.{step-moves}
 
 pub record Counts (old : World) (answer : Output × World) : Type 0 where
@@ -76,6 +76,8 @@ pub move-counts : (w : World) (event : Event) (output : Output) (new : World) �
 move-counts w event output new (sends answer more plain sent) = counts_sent w new answer more (refl, refl) refl refl
 move-counts w event output new (asks i m here none) =
     counts_member w i m (new_batch w m) _ (ask_bytes m (m.protocol.request + 1) ∷ []) here (omega arith)
+move-counts w event output new (renews i m plans fetched is here has) =
+    counts_member w i m (renewed_batch m plans) _ (ask_bytes m (m.protocol.request + 1) ∷ []) here (omega arith)
 move-counts w event output new (becomes i m after answer here change) =
     counts_stays w i m after answer here (change-requests w event i m answer after change)
 move-counts w event output new other = counts_same w new output (refl, refl) refl refl

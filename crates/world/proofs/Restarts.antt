@@ -12,6 +12,7 @@ use Rattle.rows.specs.declared.commit.Commit.{Commit}
 use Rattle.rows.specs.declared.kind.Kind.{Kind}
 use Rattle.rows.specs.Shape.{Shape, shape_of}
 use Rattle.rows.specs.Commits.{IsLegal}
+use Rattle.rows.specs.ImageLaws.{AreSpelled}
 use Rattle.wire.specs.declared.datagram.Datagram.{Datagram}
 use Rattle.wire.specs.declared.datagram.Datagram.TheVariants as datagrams
 use Rattle.wire.specs.declared.faults.WireFault.{WireFault}
@@ -88,11 +89,11 @@ world-restarts p i boot old there is =
 
 -- a fresh replica in its new boot
 restarted-fed : (laws : FedLaws) (schema : List (List ℕ × List Kind)) (workers : ℕ) (durable : List Commit) (boots : List (List ℕ))
-    (i boot : ℕ) → IsLegal (shape_of schema) workers durable → i < length boots → boot < 2 ^ 64
+    (i boot : ℕ) → IsLegal (shape_of schema) workers durable → AreSpelled durable → i < length boots → boot < 2 ^ 64
     → IsFed (shape_of schema) (names_of schema) workers durable (boots_at (with_boot boots i boot) i) i
     (replica_started schema workers i boot)
-restarted-fed laws schema workers durable boots i boot legal within below = record {
-  feeding = laws.fresh schema durable workers i boot legal;
+restarted-fed laws schema workers durable boots i boot legal spelled within below = record {
+  feeding = laws.fresh schema durable workers i boot legal spelled;
   names_are = refl;
   workers_are = refl;
   number_is = refl;
@@ -128,7 +129,7 @@ Sound-restarted laws shape p i boot old sound at never below =
     let fed : IsFed shape names workers durable (boots_at boots i) i new =
     subst (λ (s : Shape). IsFed s names workers durable (boots_at boots i) i new) same_shape
     (restarted-fed laws p.primary.schema workers durable p.boots i boot
-    (subst (λ (s : Shape). IsLegal s workers durable) (sym same_shape) legal) (omega arith) below) in
+    (subst (λ (s : Shape). IsLegal s workers durable) (sym same_shape) legal) was.feeding.spelled (omega arith) below) in
     record {
       setup_is = sound.setup_is;
       primary_is = sound.primary_is;

@@ -1,5 +1,5 @@
 -- Running a batch does at a replica of sound parts what it does at its member, also where it is cut short.
-use Rattle.std.proofs.Common.{◌≡◌, ℕ, ◌+◌, ◌<◌, cond, nat_lt, List, [], ◌∷◌, length, Option, Some, None, Result, Ok, Err}
+use Rattle.std.proofs.Common.{◌≡◌, ℕ, ◌+◌, ◌<◌, cond, nat_lt, List, [], ◌∷◌, ◌++◌, length, Option, Some, None, Result, Ok, Err}
 use Rattle.std.proofs.Common.{refl, sym, ap, subst, ◌∙◌, ◌⊎◌, inl, inr}
 use Rattle.std.specs.Prelude.{IsOkAnd}
 use Rattle.std.specs.List.{slice_get, slice_index}
@@ -9,31 +9,34 @@ use Rattle.rows.specs.Tables.{Tables, Refusal}
 use Rattle.rows.specs.Commits.{tables_after, apply_commits}
 use Rattle.wire.specs.Reading.{reading}
 use Rattle.intake.specs.State.{Arrivals}
-use Rattle.intake.specs.Steps.{dropped, missing_at, lacking_from as arrivals_lacking_from}
+use Rattle.intake.specs.Known.{with_below}
+use Rattle.intake.specs.Steps.{gained, dropped, missing_at, lacking, lacking_from as arrivals_lacking_from}
 use Rattle.dispatcher.specs.declared.outcome.Run.{Run}
 use Rattle.dispatcher.specs.declared.outcome.Run.TheVariants as runs
 use Rattle.queries.specs.declared.plan.Plan.{Plan}
 use Rattle.dispatcher.specs.Feeding.{IsFedFrom, Tells}
-use Rattle.dispatcher.specs.State.{Replica, Batch, Fetched, protocol_of}
-use Rattle.dispatcher.specs.Protocol.{Readiness, Broken, NoBatch, WaitsForHead, WaitsForFrame, Ready, want_for, readiness, fetched_in}
+use Rattle.dispatcher.specs.State.{Replica, Batch, Fetched}
+use Rattle.dispatcher.specs.Protocol.{Readiness, Broken, NoBatch, WaitsForHead, WaitsForPiece, WaitsForFrame, Ready, want_for, pull_for}
+use Rattle.dispatcher.specs.Protocol.{by_image, bases_at, lack_of, lack_at, readiness, fetched_in}
 use Rattle.dispatcher.specs.Report.{report_of}
-use Rattle.dispatcher.specs.Steps.{at_fetched, broken_of, readiness_of, CaughtUp, RunsAs, RunsOutOfMemory}
+use Rattle.dispatcher.specs.Steps.{first_tables, to_apply, at_fetched, broken_of, readiness_of, CaughtUp, RunsAs, RunsOutOfMemory}
 use Rattle.script.specs.declared.output.Output.{Output}
 use Rattle.script.specs.declared.output.Output.TheVariants as outputs
 use Rattle.world.specs.Cores.{Cores}
 use Rattle.world.specs.Inner.CoreSteps.{with_replica, with_sent, run_output}
-use Rattle.world.specs.Steps.{World, Member, arrived, known_in, readiness_at, run_happens, with_member}
+use Rattle.world.specs.Steps.{World, Member, arrived, known_in, arrived_pieces, known_pieces, readiness_at, caught_up, run_happens}
+use Rattle.world.specs.Steps.{with_member}
 use Rattle.world.specs.Allowed.{RunIsInterrupted}
 use Rattle.world.specs.Inner.Sound.{Sound}
 use Rattle.world.specs.Standing.{boots_at, world_of, member_of}
-use Rattle.world.proofs.Datagrams.{want-reads}
+use Rattle.world.proofs.Datagrams.{want-reads, pull-reads}
 use Rattle.world.proofs.FedLaws.{FedLaws}
 use Rattle.world.proofs.Lists.{set-same}
 use Rattle.world.proofs.Moving.{TakesMemory}
 use Rattle.world.proofs.Worlds.{member_at, member-changes}
 use Rattle.world.proofs.WorldMoves.{Found, found-is}
 use Rattle.world.proofs.Moves.{Follows, Sound-replica, Sound-one, Follows-same}
-use Rattle.world.proofs.Replicas.{Follows-goes}
+use Rattle.world.proofs.Replicas.{Follows-goes, arrived-known, one-known}
 
 -- ---- what is known and what is missing
 
@@ -43,6 +46,13 @@ known-dropped [] counts = refl
 known-dropped (first ∷ arrivals) [] = refl
 known-dropped (first ∷ arrivals) (count ∷ counts) = ap (λ l. first.known ∷ l) (known-dropped arrivals counts)
 
+-- what an image stands for is known by the seqs that were
+gained-known : (arrivals : List Arrivals) (bases : List ℕ)
+    → known_in (gained (arrived (known_in arrivals)) bases) ≡ known_in (gained arrivals bases)
+gained-known arrivals [] = arrived-known (known_in arrivals)
+gained-known [] (base ∷ bases) = refl
+gained-known (first ∷ arrivals) (base ∷ bases) = ap (λ l. with_below first.known base ∷ l) (gained-known arrivals bases)
+
 lacking-from : (worker : ℕ) (arrivals : List Arrivals) (bases counts : List ℕ)
     → arrivals_lacking_from worker (arrived (known_in arrivals)) bases counts ≡ arrivals_lacking_from worker arrivals bases counts
 lacking-from worker [] bases counts = refl
@@ -51,18 +61,30 @@ lacking-from worker (first ∷ arrivals) bases (count ∷ counts) =
     ap (λ (rest : Option (ℕ × ℕ)). cond (nat_lt (missing_at bases worker first) count) (Some (worker, missing_at bases worker first)) rest)
     (lacking-from (worker + 1) arrivals bases counts)
 
--- what a run finds is told by the seqs that are known
-pub readiness-same : (had : List ℕ) (at : ℕ) (r : Replica) → readiness_at (member_of had at r) ≡ readiness_of r
-readiness-same had at r = λ i. readiness r.broken r.batch (λ counts. lacking-from 0 r.arrivals [] counts i)
+-- what a batch lacks is told by the seqs and the pieces that are known
+lack-same : (r : Replica) (fetched : Fetched) → length r.pieces.arrivals ≡ 1
+    → lack_at r.version (arrived_pieces (known_pieces r.pieces)) (arrived (known_in r.arrivals)) fetched
+    ≡ lack_at r.version r.pieces r.arrivals fetched
+lack-same r fetched one =
+    let lacks : List Arrivals → Option (ℕ × ℕ) = λ arrivals. lacking arrivals [] (fetched.pieces ∷ []) in
+    let piece : lacks (arrived_pieces (known_pieces r.pieces)).arrivals ≡ lacks r.pieces.arrivals =
+    ap (λ (l : List (List ℕ)). lacks (arrived l)) (one-known r.pieces.arrivals one)
+    ∙ lacking-from 0 r.pieces.arrivals [] (fetched.pieces ∷ []) in
+    let frame = lacking-from 0 r.arrivals (bases_at r.version fetched) fetched.counts in
+    λ i. lack_of (cond (by_image r.version fetched) (piece i) None) (frame i)
+
+-- what a run finds is told by them
+pub readiness-same : (had : List ℕ) (at : ℕ) (r : Replica) → length r.pieces.arrivals ≡ 1
+    → readiness_at (member_of had at r) ≡ readiness_of r
+readiness-same had at r one = λ i. readiness r.broken r.batch (λ fetched. lack-same r fetched one i)
 
 -- its member at the version that was fetched
 caught-member : (had : List ℕ) (at : ℕ) (r : Replica) (fetched : Fetched) (tables : Tables) (batch : Option Batch)
-    → member_of had at (record (at_fetched r fetched tables) { batch = batch })
-    ≡ record (member_of had at r) { protocol = record (protocol_of r) { version = fetched.version; batch = batch } }
-caught-member had at r fetched tables batch = λ i. record (member_of had at r) {
-  known = known-dropped r.arrivals fetched.counts i;
-  protocol = record (protocol_of r) { version = fetched.version; batch = batch };
-}
+    → member_of had at (record (at_fetched r fetched tables) { batch = batch }) ≡ caught_up (member_of had at r) fetched batch
+caught-member had at r fetched tables batch =
+    let bases = bases_at r.version fetched in
+    ap (λ (known : List (List ℕ)). record (caught_up (member_of had at r) fetched batch) { known = known })
+    (known-dropped (gained r.arrivals bases) fetched.counts ∙ sym (gained-known r.arrivals bases))
 
 -- ---- the run
 
@@ -75,17 +97,29 @@ module _ (laws : FedLaws) (shape : Shape) (p : Cores) (i : ℕ) (r : Replica) (s
         let pair : (answer, after) ≡ (known, r) = cc in
         subst (λ (x : Run × Replica). Follows shape there (run_output p i x)) (sym pair) follows
 
+    -- a run that sends a datagram, which tells nothing of the list
+    run-sends : (bytes : List ℕ) (output : Output) → Tells shape p.primary.workers p.primary.durable (reading bytes)
+        → Follows shape (output, record (world_of p) { sent = p.sent ++ bytes ∷ [] }) (output, with_sent (with_replica p i r) bytes)
+    run-sends bytes output tells =
+        let same : with_sent p bytes ≡ with_sent (with_replica p i r) bytes =
+        ap (λ (replicas : List Replica). with_sent (record p { replicas = replicas }) bytes) (sym (set-same p.replicas i r here)) in
+        (ap (λ (p : Cores). (output, world_of p)) same, subst (Sound shape) same (Sound-one shape p bytes sound tells))
+
+    run-waits-piece : (base number : ℕ)
+        → Follows shape (run_happens (world_of p) (member_at p i r) (WaitsForPiece base number))
+        (run_output p i (runs.WaitingPiece number (pull_for r.number base number), r))
+    run-waits-piece base number =
+        let bytes = (pull_for r.number base number).packet in
+        run-sends bytes (outputs.WaitingPiece number (record { index = length p.sent; len = length bytes }))
+        (pull-reads (Tells shape p.primary.workers p.primary.durable) (λ fault. tt) (λ replica base from. tt) r.number base number)
+
     run-waits : (worker seq : ℕ)
         → Follows shape (run_happens (world_of p) (member_at p i r) (WaitsForFrame worker seq))
         (run_output p i (runs.Waiting worker seq (want_for r.number worker seq), r))
     run-waits worker seq =
         let bytes = (want_for r.number worker seq).packet in
-        let output = outputs.Waiting worker seq (record { index = length p.sent; len = length bytes }) in
-        let same : with_sent p bytes ≡ with_sent (with_replica p i r) bytes =
-        ap (λ (replicas : List Replica). with_sent (record p { replicas = replicas }) bytes) (sym (set-same p.replicas i r here)) in
-        let tells : Tells p.primary.workers p.primary.durable (reading bytes) =
-        want-reads (Tells p.primary.workers p.primary.durable) (λ fault. tt) (λ replica worker from. tt) r.number worker seq in
-        (ap (λ (p : Cores). (output, world_of p)) same, subst (Sound shape) same (Sound-one shape p bytes sound tells))
+        run-sends bytes (outputs.Waiting worker seq (record { index = length p.sent; len = length bytes }))
+        (want-reads (Tells shape p.primary.workers p.primary.durable) (λ fault. tt) (λ replica worker from. tt) r.number worker seq)
 
     run-finishes : (plans : List Plan) (fetched : Fetched) (answer : Run) (after : Replica)
         → readiness_of r ≡ Ready plans fetched → RunsAs (readiness_of r) r answer after
@@ -98,11 +132,11 @@ module _ (laws : FedLaws) (shape : Shape) (p : Cores) (i : ℕ) (r : Replica) (s
         let text =
         λ (shape : Shape). report_of (tables_after shape durable fetched.version) fetched.version plans in
         let m = member_at p i r in
-        let batch = subst (Found m.protocol) (readiness-same m.boots m.asked_at r ∙ is) (found-is m) in
+        let batch = subst (Found m.protocol) (readiness-same m.boots m.asked_at r fed.pieces_are.one ∙ is) (found-is m) in
         let done =
         laws.ready shape durable r (record { plans = plans; fetched = Some fetched }) fetched answer after fed batch (ap fetched_in is)
         run in
-        let new = record m { protocol = record m.protocol { version = fetched.version; batch = None } } in
+        let new = caught_up m fetched None in
         let there : Output × World = run_happens (world_of p) m (Ready plans fetched) in
         let pair : (answer, after) ≡ (runs.Answered (text shape), end) = cc in
         subst (λ (x : Run × Replica). Follows shape there (run_output p i x)) (sym pair)
@@ -118,7 +152,8 @@ module _ (laws : FedLaws) (shape : Shape) (p : Cores) (i : ℕ) (r : Replica) (s
         → Follows shape (run_happens (world_of p) (member_at p i r) (readiness_at (member_at p i r))) (run_output p i (answer, after))
     replica-runs answer after run =
         subst (λ (found : Readiness). Follows shape (run_happens (world_of p) (member_at p i r) found) (run_output p i (answer, after)))
-        (sym (readiness-same (boots_at p.boots i) (slice_index p.asked_at i) r)) (by (readiness_of r) refl run)
+        (sym (readiness-same (boots_at p.boots i) (slice_index p.asked_at i) r (sound.fed i r here).feeding.pieces_are.one))
+        (by (readiness_of r) refl run)
       where
         by : (found : Readiness) → readiness_of r ≡ found → RunsAs found r answer after
             → Follows shape (run_happens (world_of p) (member_at p i r) found) (run_output p i (answer, after))
@@ -126,13 +161,15 @@ module _ (laws : FedLaws) (shape : Shape) (p : Cores) (i : ℕ) (r : Replica) (s
         by NoBatch is told = run-same _ answer after runs.NoBatch told.1 told.0 (Follows-same shape p i r outputs.NoBatch sound here)
         by WaitsForHead is told =
             run-same _ answer after runs.WaitingHead told.1 told.0 (Follows-same shape p i r outputs.WaitingHead sound here)
+        by (WaitsForPiece base number) is told =
+            run-same _ answer after (runs.WaitingPiece number (pull_for r.number base number)) told.1 told.0 (run-waits-piece base number)
         by (WaitsForFrame worker seq) is told =
             run-same _ answer after (runs.Waiting worker seq (want_for r.number worker seq)) told.1 told.0 (run-waits worker seq)
         by (Ready plans fetched) is told = run-finishes plans fetched answer after is run
 
 -- ---- a run that is cut short
 
--- a batch of which no frame is missing is answered by its report, which takes memory
+-- a batch for which nothing is missing is answered by its report, which takes memory
 pub ready-takes : (w : World) (m : Member) (fetched : Fetched) → fetched_in (readiness_at m) ≡ Some fetched
     → TakesMemory (run_happens w m (readiness_at m)).0
 ready-takes w m fetched h = by (readiness_at m) h
@@ -152,7 +189,8 @@ Ends shape p m answer = Cuts (world_of p) (Some m) answer.0 (world_of answer.1) 
 -- the tables of a replica that has caught up
 caught-up : (old : Replica) (fetched : Fetched) (new : Replica) → CaughtUp old fetched new
     → (tables : Tables) × (new ≡ at_fetched old fetched tables)
-caught-up old fetched new caught = by (apply_commits old.tables caught.commits) caught.applied
+caught-up old fetched new caught =
+    by (apply_commits (first_tables old fetched) (to_apply old fetched caught.commits)) caught.applied
   where
     by : (made : Result Tables Refusal) → IsOkAnd made (λ tables. new ≡ at_fetched old fetched tables)
         → (tables : Tables) × (new ≡ at_fetched old fetched tables)
@@ -175,7 +213,7 @@ module _ (laws : FedLaws) (shape : Shape) (p : Cores) (i : ℕ) (r : Replica) (s
         let after = at_fetched r fetched tables in (
           inr (
             fetched,
-            ap fetched_in (readiness-same had at r) ∙ is_ready,
+            ap fetched_in (readiness-same had at r (sound.fed i r here).feeding.pieces_are.one) ∙ is_ready,
             inl (
               refl,
               sym (member-changes p i after (sound.fed i r here).number_is)
@@ -194,7 +232,7 @@ module _ (laws : FedLaws) (shape : Shape) (p : Cores) (i : ℕ) (r : Replica) (s
         let at = slice_index p.asked_at i in (
           inr (
             fetched,
-            ap fetched_in (readiness-same had at r) ∙ is_ready,
+            ap fetched_in (readiness-same had at r (sound.fed i r here).feeding.pieces_are.one) ∙ is_ready,
             inr (refl, sym (member-changes p i (broken_of r) (sound.fed i r here).number_is), below),
           ),
           Sound-replica shape p i r (broken_of r) sound here

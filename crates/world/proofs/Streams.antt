@@ -3,7 +3,7 @@ use Rattle.std.proofs.Common.{◌≡◌, ℕ, zero, suc, ◌+◌, ◌^◌, ◌<�
 use Rattle.std.proofs.Common.{Some, get_or, refl, sym, ap, ◌∙◌, ◌⊎◌, inl, inr, arith}
 use Rattle.std.specs.List.{slice_get, AllByRecursion}
 use Rattle.std.proofs.lemmas.Bool.{cases_lt, eqb-true}
-use Rattle.std.proofs.lemmas.List.{get_or_append_left, get_or_past, get_or-append-add, length-append, take_all}
+use Rattle.std.proofs.lemmas.List.{get_or_append_left, get_or_past, get_or-append-add, length-append}
 use Rattle.std.proofs.lemmas.Option.{none-some}
 use Rattle.rows.specs.declared.commit.Commit.{Commit}
 use Rattle.rows.specs.declared.entry.Entry.{Entry}
@@ -14,7 +14,7 @@ use Rattle.update_log.specs.Parts.{parts_of}
 use Rattle.update_log.specs.Streams.{stream_from, stream_of, frame_count}
 use Rattle.ordering.specs.Cutting.{AreFrameCounts}
 use Rattle.primary.specs.Sending.{counts_of}
-use Rattle.world.proofs.Lists.{All-append}
+use Rattle.world.proofs.Lists.{All-append, All-front}
 
 -- ---- frames
 
@@ -135,16 +135,15 @@ counts-at commits version (suc workers) worker below =
           ∙ ap (λ (w : ℕ). frame_count commits w version) is
     ]
 
--- the counts of a Head are those of the list at its end
-pub counts-are : (commits : List Commit) (workers : ℕ) → AllByRecursion (IsCommit workers) commits
-    → AreFrameCounts commits (length commits) (counts_of commits (length commits) workers)
-counts-are commits workers each worker = elim (cases_lt worker workers) [
-  | inl below ↦ counts-at commits (length commits) workers worker below
+-- the counts of a Head are those of the list at its version and at its base
+pub counts-are : (commits : List Commit) (version workers : ℕ) → AllByRecursion (IsCommit workers) commits
+    → AreFrameCounts commits version (counts_of commits version workers)
+counts-are commits version workers each worker = elim (cases_lt worker workers) [
+  | inl below ↦ counts-at commits version workers worker below
   | inr past ↦
-      let size = counts-length commits (length commits) workers in
-      get_or_past (counts_of commits (length commits) workers) worker 0 (omega arith)
-      ∙ ap length (sym (none-of workers worker 0 0 commits each past))
-      ∙ ap (λ (l : List Commit). length (stream_of l worker)) (sym (take_all (length commits) commits (omega arith)))
+      let size = counts-length commits version workers in
+      get_or_past (counts_of commits version workers) worker 0 (omega arith)
+      ∙ ap length (sym (none-of workers worker 0 0 (take version commits) (All-front (IsCommit workers) version commits each) past))
 ]
 
 -- and of 64 bits, as the streams are

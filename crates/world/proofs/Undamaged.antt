@@ -173,7 +173,7 @@ based-begun p draft begun = record { known = begun.known; defined = begun.define
 
 change-faultless : (w : World) (event : Event) (i : ℕ) (m : Member) (output : Output) (new : Member) → Change w event i m output new
     → IsFaultless output
-change-faultless w event i m output new (hears answer known is) = is.1
+change-faultless w event i m output new (hears answer known pieces is) = is.1
 change-faultless w event i m output new other = tt
 
 -- a move that leaves what is durable

@@ -14,6 +14,7 @@ use Rattle.rows.specs.Shape.{Shape, AreTables, shape_of}
 use Rattle.rows.specs.Commits.{tables_after}
 use Rattle.rows.specs.declared.commit.Commit.{Commit}
 use Rattle.rows.specs.Commits.{IsLegal}
+use Rattle.rows.specs.ImageLaws.{AreSpelled}
 use Rattle.update_log.specs.Streams.{stream_of}
 use Rattle.wire.specs.declared.out.Out.{Out}
 use Rattle.journal.specs.declared.form.Form.{Form}
@@ -30,7 +31,7 @@ use Rattle.dispatcher.specs.declared.outcome.Run.TheVariants as runs
 use Rattle.queries.specs.declared.plan.Plan.{Plan}
 use Rattle.dispatcher.specs.State.{Replica}
 use Rattle.dispatcher.specs.Protocol.{fetched_in}
-use Rattle.dispatcher.specs.Steps.{started_replica, opened, asked, dumped, readiness_of, RunsAs, RunsOutOfMemory, MayRun}
+use Rattle.dispatcher.specs.Steps.{started_replica, opened, asked, renewed, dumped, readiness_of, RunsAs, RunsOutOfMemory, MayRun}
 use Rattle.dispatcher.specs.TableText.{names_of, table_text}
 use Rattle.dispatcher.specs.Feeding.{IsFedFrom}
 use Rattle.mvcc.specs.Transactions.{insert_answer, set_answer, delete_answer, add_column_answer, get_answer}
@@ -45,7 +46,7 @@ use Rattle.world.specs.Cores.{Cores, Opening, new_opening, IsOpeningOn, cores_st
 use Rattle.world.specs.Inner.Nodes.{IsStoppedOn, opening_of}
 use Rattle.world.specs.Inner.CoreSteps.{HappensBeside, KeepsStopped, MayAnswer, MayStep, ReplicaRunsBy, come_by, to_replica, open_by}
 use Rattle.world.specs.Inner.CoreSteps.{opening_query}
-use Rattle.world.specs.Inner.CoreSteps.{ask_by, asking, run_output, raw_by, version_by, dump_by, of_dumped, restart_by}
+use Rattle.world.specs.Inner.CoreSteps.{ask_by, asking, renew_by, renewing, run_output, raw_by, version_by, dump_by, of_dumped, restart_by}
 use Rattle.world.specs.Inner.CoreSteps.{with_restarted}
 use Rattle.world.specs.Theorem.{SaysRows, IsFaultless}
 use Rattle.world.specs.Steps.{World, Member, open_transaction, happens, unless_stopped, on_member, deliver_happens, readiness_at}
@@ -66,7 +67,8 @@ use Rattle.world.proofs.Freshness.{step-serves}
 use Rattle.world.proofs.Undamaged.{step-fine, opening-undamaged}
 use Rattle.world.proofs.Requested.{step-counts, opening-requested, as-many}
 use Rattle.world.proofs.Replicas.{bytes-come}
-use Rattle.world.proofs.Querying.{query-opens, version-asked}
+use Rattle.world.proofs.Durable.{journaled-spelled}
+use Rattle.world.proofs.Querying.{query-opens, version-asked, version-renewed}
 use Rattle.world.proofs.Moving.{TakesMemory, AsksByAnswer}
 use Rattle.world.proofs.Running.{replica-runs, readiness-same, ready-takes, cut-ends, Cuts}
 use Rattle.world.proofs.Committing.{transactions-begun, change-sound, look-sound, abort-sound, commit-sound, flush-sound, stop-sound}
@@ -217,9 +219,18 @@ ask-leaves p number (Some r) = by (asked r)
     by (Ok done) = record { primary = refl; stopped = refl; journal = refl; form = refl }
     by (Err fault) = leaves-same p
 
+renew-leaves : (p : Cores) (number : ℕ) (found : Option Replica) → Leaves p (renew_by p number found).1
+renew-leaves p number None = leaves-same p
+renew-leaves p number (Some r) = by (renewed r)
+  where
+    by : (answer : Result (Out × Replica) AskFault) → Leaves p (renewing p number answer).1
+    by (Ok done) = record { primary = refl; stopped = refl; journal = refl; form = refl }
+    by (Err fault) = leaves-same p
+
 run-leaves : (p : Cores) (number : ℕ) (answer : Run) (after : Replica) → Leaves p (run_output p number (answer, after)).1
 run-leaves p number runs.NoBatch after = record { primary = refl; stopped = refl; journal = refl; form = refl }
 run-leaves p number runs.WaitingHead after = record { primary = refl; stopped = refl; journal = refl; form = refl }
+run-leaves p number (runs.WaitingPiece piece pull) after = record { primary = refl; stopped = refl; journal = refl; form = refl }
 run-leaves p number (runs.Waiting worker seq want) after = record { primary = refl; stopped = refl; journal = refl; form = refl }
 run-leaves p number (runs.Answered report) after = record { primary = refl; stopped = refl; journal = refl; form = refl }
 run-leaves p number runs.Inconsistent after = record { primary = refl; stopped = refl; journal = refl; form = refl }
@@ -318,7 +329,8 @@ run-made laws shape p i r answer after sound here (inr wants) =
     subst (λ (found : Option Member). TakesMemory
     (on_member w found (λ m. run_happens w m (readiness_at m))).0) (sym at)
     (ready-takes w (member_at p i r) wants.0
-    (ap fetched_in (readiness-same (boots_at p.boots i) (slice_index p.asked_at i) r) ∙ wants.1)) in (
+    (ap fetched_in
+    (readiness-same (boots_at p.boots i) (slice_index p.asked_at i) r (sound.fed i r here).feeding.pieces_are.one) ∙ wants.1)) in (
       elim same [ inl memory ↦ inr (inl (memory.0, memory.1, takes)) | inr cut ↦ inr (inr cut) ],
       ends.1,
       leaves-keeps p new.1 (run-leaves p i answer after),
@@ -412,6 +424,11 @@ module _ (laws : FedLaws) (shape : Shape) (p : Cores) (sound : Sound shape p) (f
       (λ answer takes. takes)
       (found-member shape p replica _ _ (version-asked laws shape p replica (slice_get p.replicas replica) sound refl))
       (ask-leaves p replica (slice_get p.replicas replica)) may
+  may-follow (events.Renew replica) output new may =
+      happens-called shape p (events.Renew replica) (renew_by p replica (slice_get p.replicas replica)) output new sound
+      (λ answer takes. takes)
+      (found-member shape p replica _ _ (version-renewed laws shape p replica (slice_get p.replicas replica) sound refl))
+      (renew-leaves p replica (slice_get p.replicas replica)) may
   may-follow (events.Run replica) output new may =
       run-follows laws shape p replica (slice_get p.replicas replica) output new sound refl may
   may-follow (events.Version replica) output new may =
@@ -462,10 +479,10 @@ journal-stands p keeps text whole = by p.stopped refl
 -- ---- the beginning
 
 started-fed : (laws : FedLaws) (schema : List (List ℕ × List Kind)) (workers number : ℕ) (durable : List Commit)
-    → IsLegal (shape_of schema) workers durable
+    → IsLegal (shape_of schema) workers durable → AreSpelled durable
     → IsFed (shape_of schema) (names_of schema) workers durable (1 ∷ []) number (started_replica schema workers number 1)
-started-fed laws schema workers number durable legal = record {
-  feeding = laws.fresh schema durable workers number 1 legal;
+started-fed laws schema workers number durable legal spelled = record {
+  feeding = laws.fresh schema durable workers number 1 legal spelled;
   names_are = refl;
   workers_are = refl;
   number_is = refl;
@@ -473,19 +490,19 @@ started-fed laws schema workers number durable legal = record {
 }
 
 replicas-fed : (laws : FedLaws) (schema : List (List ℕ × List Kind)) (workers number count i : ℕ) (r : Replica) (durable : List Commit)
-    → IsLegal (shape_of schema) workers durable → slice_get (replicas_from schema workers number count) i ≡ Some r
+    → IsLegal (shape_of schema) workers durable → AreSpelled durable → slice_get (replicas_from schema workers number count) i ≡ Some r
     → IsFed (shape_of schema) (names_of schema) workers durable (boots_at (replicate count (1 ∷ [])) i) (number + i) r
-replicas-fed laws schema workers number zero i r durable legal h = absurd (none-some r h)
-replicas-fed laws schema workers number (suc count) zero r durable legal h =
+replicas-fed laws schema workers number zero i r durable legal spelled h = absurd (none-some r h)
+replicas-fed laws schema workers number (suc count) zero r durable legal spelled h =
     let same : started_replica schema workers number 1 ≡ r = cc in
     let index : number ≡ number + 0 = omega arith in
     subst (λ (n : ℕ). IsFed (shape_of schema) (names_of schema) workers durable (1 ∷ []) n r) index
     (subst (IsFed (shape_of schema) (names_of schema) workers durable (1 ∷ []) number) same
-    (started-fed laws schema workers number durable legal))
-replicas-fed laws schema workers number (suc count) (suc i) r durable legal h =
+    (started-fed laws schema workers number durable legal spelled))
+replicas-fed laws schema workers number (suc count) (suc i) r durable legal spelled h =
     let index : suc number + i ≡ number + suc i = omega arith in
     subst (λ (n : ℕ). IsFed (shape_of schema) (names_of schema) workers durable (boots_at (replicate count (1 ∷ [])) i) n r) index
-    (replicas-fed laws schema workers (suc number) count i r durable legal h)
+    (replicas-fed laws schema workers (suc number) count i r durable legal spelled h)
 
 length-replicas : (schema : List (List ℕ × List Kind)) (workers number count : ℕ)
     → length (replicas_from schema workers number count) ≡ count
@@ -498,8 +515,8 @@ length-zeros (suc count) = ap suc (length-zeros count)
 
 parts-sound : (laws : FedLaws) (opening : Opening) → 0 < opening.setup.workers → opening.setup.workers ≤ WORKERS_MAX
     → opening.setup.replicas ≤ REPLICAS_MAX → IsLegal (shape_of opening.setup.schema) opening.setup.workers opening.durable
-    → Sound (shape_of opening.setup.schema) (cores_started opening)
-parts-sound laws opening some workers few legal =
+    → AreSpelled opening.durable → Sound (shape_of opening.setup.schema) (cores_started opening)
+parts-sound laws opening some workers few legal spelled =
     let setup = opening.setup in
     let shape = shape_of setup.schema in
     let count = setup.replicas in
@@ -514,7 +531,7 @@ parts-sound laws opening some workers few legal =
           omega arith in
           subst (λ (n : ℕ). IsFed shape (names_of setup.schema) setup.workers opening.durable (boots_at (replicate count (1 ∷ [])) i) n r)
           index
-          (replicas-fed laws setup.schema setup.workers 0 count i r opening.durable legal here);
+          (replicas-fed laws setup.schema setup.workers 0 count i r opening.durable legal spelled here);
       sent_is = λ i bytes here. absurd (none-some bytes here);
     }
 
@@ -533,12 +550,12 @@ fed-sound p sound =
 
 pub started-kept : (laws : FedLaws) (opening : Opening) → AreTables (shape_of opening.setup.schema) → 0 < opening.setup.workers
     → opening.setup.workers ≤ WORKERS_MAX → opening.setup.replicas ≤ REPLICAS_MAX
-    → IsLegal (shape_of opening.setup.schema) opening.setup.workers opening.durable → length opening.durable < 2 ^ 64
-    → KeepsStopped (cores_started opening) → CoresAreKept (cores_started opening)
-started-kept laws opening tables some workers few legal numbered kept = record {
+    → IsLegal (shape_of opening.setup.schema) opening.setup.workers opening.durable → AreSpelled opening.durable
+    → length opening.durable < 2 ^ 64 → KeepsStopped (cores_started opening) → CoresAreKept (cores_started opening)
+started-kept laws opening tables some workers few legal spelled numbered kept = record {
   journal = kept;
   tables = tables;
-  sound = parts-sound laws opening some workers few legal;
+  sound = parts-sound laws opening some workers few legal spelled;
   requested = subst IsRequested (sym (world-started opening)) (opening-requested opening.setup opening.durable opening.stopped);
   undamaged = subst IsUndamaged (sym (world-started opening)) (opening-undamaged opening.setup opening.durable opening.stopped);
   fresh = subst Fresh (sym (world-started opening)) (opening-fresh opening.setup opening.durable opening.stopped numbered few);
@@ -548,7 +565,7 @@ started-kept laws opening tables some workers few legal numbered kept = record {
 pub new-kept : (laws : FedLaws) (setup : Setup) → AreTables (shape_of setup.schema) → 0 < setup.workers → setup.workers ≤ WORKERS_MAX
     → setup.replicas ≤ REPLICAS_MAX → CoresAreKept (cores_started (new_opening setup))
 new-kept laws setup tables some workers few =
-    started-kept laws (new_opening setup) tables some workers few (record { each = tt; defined = refl }) (omega arith)
+    started-kept laws (new_opening setup) tables some workers few (record { each = tt; defined = refl }) tt (omega arith)
     (λ stopped. absurd (false≢true stopped))
 
 -- what is recovered is legal
@@ -557,6 +574,12 @@ recovered-legal : (workers : ℕ) (shape : Shape) (bytes : List ℕ) (form : For
 recovered-legal workers shape bytes form commits bytes_kept (inl ends) =
     subst (IsLegal shape workers) (sym ends.2) (record { each = tt; defined = refl })
 recovered-legal workers shape bytes form commits bytes_kept (inr kept) = kept.0.0.is.journaled.legal
+
+-- and its entries have spellings
+recovered-spelled : (workers : ℕ) (shape : Shape) (bytes : List ℕ) (form : Form) (commits : List Commit) (bytes_kept : ℕ)
+    → IsRecovered workers shape bytes form commits bytes_kept → AreSpelled commits
+recovered-spelled workers shape bytes form commits bytes_kept (inl ends) = subst AreSpelled (sym ends.2) tt
+recovered-spelled workers shape bytes form commits bytes_kept (inr kept) = journaled-spelled commits kept.0.0.is.journaled.records
 
 -- a world that is opened on a journal
 pub opening_on : (setup : Setup) (bytes : List ℕ) (node : PrimaryNode) → IsStoppedOn setup bytes node
@@ -570,7 +593,8 @@ opened-kept laws setup bytes node tables some workers few on =
     let opening = opening_of setup node in
     let shape = shape_of setup.schema in
     started-kept laws opening tables some workers few
-    (recovered-legal setup.workers shape bytes opening.form opening.durable on.2.0 on.2.1) on.3
+    (recovered-legal setup.workers shape bytes opening.form opening.durable on.2.0 on.2.1)
+    (recovered-spelled setup.workers shape bytes opening.form opening.durable on.2.0 on.2.1) on.3
     (λ stopped. (
       on.2.0,
       subst (λ (b : List ℕ). IsRecovered setup.workers shape b opening.form opening.durable on.2.0) (sym on.1) on.2.1,

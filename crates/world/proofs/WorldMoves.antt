@@ -24,7 +24,8 @@ use Rattle.mvcc.specs.Transaction.{Transaction}
 use Rattle.mvcc.specs.Transactions.{insert_answer, set_answer, delete_answer, add_column_answer, get_answer}
 use Rattle.intake.specs.declared.taken.Taken.{Taken}
 use Rattle.intake.specs.declared.taken.Taken.TheVariants as takens
-use Rattle.intake.specs.Steps.{taken, lacking}
+use Rattle.intake.specs.Steps.{taken}
+use Rattle.intake.specs.State.{Arrivals, known_of}
 use Rattle.primary.specs.declared.faults.CommitFault.{CommitFault}
 use Rattle.primary.specs.declared.faults.CommitFault.TheVariants as faults
 use Rattle.primary.specs.Steps.{commit_answer, committed, flushed, based}
@@ -36,9 +37,12 @@ use Rattle.dispatcher.specs.declared.faults.AskFault.{AskFault}
 use Rattle.dispatcher.specs.declared.faults.AskFault.TheVariants as ask_faults
 use Rattle.dispatcher.specs.declared.faults.OpenFault.TheVariants as open_faults
 use Rattle.dispatcher.specs.State.{Batch, Fetched, Protocol}
-use Rattle.dispatcher.specs.Protocol.{opens_checked, ask_for, want_for, with_batch, asks_by, is_own, fetched_by, takes_head}
-use Rattle.dispatcher.specs.Protocol.{Readiness, Broken, NoBatch, WaitsForHead, WaitsForFrame, Ready}
-use Rattle.dispatcher.specs.Protocol.{readiness, fetched_in}
+use Rattle.dispatcher.specs.Images.{piece_frame}
+use Rattle.dispatcher.specs.Protocol.{opens_checked, ask_for, want_for, pull_for, with_batch, asks_by, renews_by, is_own, fetched_by}
+use Rattle.dispatcher.specs.Protocol.{takes_head, bases_for, fetched_for, wants_piece, pieces_for}
+use Rattle.dispatcher.specs.Protocol.{Readiness, Broken, NoBatch, WaitsForHead, WaitsForPiece, WaitsForFrame, Ready}
+use Rattle.dispatcher.specs.Protocol.{Lack, Piece as LacksPiece, Frame as LacksFrame, Nothing as LacksNothing, lack_at, readiness}
+use Rattle.dispatcher.specs.Protocol.{fetched_in}
 use Rattle.dispatcher.specs.Steps.{got_of}
 use Rattle.dispatcher.specs.Report.{report_of}
 use Rattle.script.specs.declared.event.Event.{Event}
@@ -50,11 +54,12 @@ use Rattle.script.specs.declared.output.Output.TheVariants as outputs
 use Rattle.world.specs.Outputs.{of_change, of_look, of_commit, of_answers, packets_of, of_got}
 use Rattle.world.specs.Stops.{stopped_at, closed}
 use Rattle.world.specs.Steps.{World, Member, open_transaction, happens, unless_stopped, on_transaction, change_happens, commit_happens}
-use Rattle.world.specs.Steps.{abort_happens, push_happens, with_member, arrived, known_in, head_happens, datagram_happens, on_member}
-use Rattle.world.specs.Steps.{delivered, deliver_happens, is_forged, shown, open_happens, ask_happens, readiness_at, run_happens, dump_at}
-use Rattle.world.specs.Steps.{send, restarted, had_boot, durable_tables}
+use Rattle.world.specs.Steps.{abort_happens, push_happens, with_member, KnownPieces, arrived, known_in, arrived_pieces, known_pieces}
+use Rattle.world.specs.Steps.{piece_happens, head_happens, datagram_happens, on_member, delivered, deliver_happens, is_forged, shown}
+use Rattle.world.specs.Steps.{open_happens, ask_happens, renew_happens, readiness_at, caught_up, run_happens, dump_at, send, restarted}
+use Rattle.world.specs.Steps.{had_boot, durable_tables}
 use Rattle.world.specs.Theorem.{IsFaultless}
-use Rattle.world.specs.Allowed.{RunIsInterrupted, MayHappen}
+use Rattle.world.specs.Allowed.{broken_at, RunIsInterrupted, MayHappen}
 use Rattle.world.proofs.Raw.{unforged}
 
 -- ---- a replica
@@ -66,6 +71,12 @@ ask_bytes m request = (ask_for m.protocol.number m.protocol.boot request).packet
 -- the replica with a new batch
 abbrev pub new_batch : World → Member → Member
 new_batch w m = record m { asked_at = length w.primary.durable; protocol = with_batch m.protocol }
+
+-- the replica with its batch, for which the version that was fetched is given up
+abbrev pub renewed_batch : Member → List Plan → Member
+renewed_batch m plans = record m {
+  protocol = record m.protocol { request = m.protocol.request + 1; batch = Some (record { plans = plans; fetched = None }) };
+}
 
 -- a Head with the request of a replica
 abbrev pub own_head : Protocol → Head → Head
@@ -89,19 +100,20 @@ Found q other = Unit {0}
 pub found-is : (m : Member) → Found m.protocol (readiness_at m)
 found-is m = by m.protocol.broken m.protocol.batch refl
   where
-    missing : List ℕ → Option (ℕ × ℕ)
-    missing = lacking (arrived m.known) []
+    missing : Fetched → Lack
+    missing = lack_at m.protocol.version (arrived_pieces m.pieces) (arrived m.known)
 
-    at : (plans : List Plan) (fetched : Fetched) (first : Option (ℕ × ℕ))
+    at : (plans : List Plan) (fetched : Fetched) (first : Lack)
         → m.protocol.batch ≡ Some (record { plans = plans; fetched = Some fetched })
-        → Found m.protocol (readiness false (Some (record { plans = plans; fetched = Some fetched })) (λ counts. first))
-    at plans fetched None has = has
-    at plans fetched (Some frame) has = tt
+        → Found m.protocol (readiness false (Some (record { plans = plans; fetched = Some fetched })) (λ fetched. first))
+    at plans fetched LacksNothing has = has
+    at plans fetched (LacksPiece number) has = tt
+    at plans fetched (LacksFrame worker seq) has = tt
 
     on : (plans : List Plan) (fetched : Option Fetched) → m.protocol.batch ≡ Some (record { plans = plans; fetched = fetched })
         → Found m.protocol (readiness false (Some (record { plans = plans; fetched = fetched })) missing)
     on plans None has = tt
-    on plans (Some fetched) has = at plans fetched (missing fetched.counts) has
+    on plans (Some fetched) has = at plans fetched (missing fetched) has
 
     by : (broken : Bool) (batch : Option Batch) → m.protocol.batch ≡ batch
         → Found m.protocol (readiness broken batch missing)
@@ -142,34 +154,36 @@ IsChanged w draft new =
     ⊎ ((table row : ℕ) × (delete_answer (shape_of w.primary.schema) w.primary.durable draft table row ≡ Ok new))
     ⊎ ((table : ℕ) × (default : Value) × (add_column_answer (shape_of w.primary.schema) w.primary.durable draft table default ≡ Ok new))
 
--- datagrams that are sent: a frame, what the primary answers to bytes that were sent, the Ask of a batch again, a Want
+-- datagrams that are sent: a frame, what the primary answers to bytes that were sent, the Ask of a batch again, a Want, a Pull
 pub data AreSent (w : World) : List (List ℕ) → Type 0 where
   framed : (frame : Frame) → AreSent w (frame_spelling frame ∷ [])
   answered : (bytes : List ℕ) → WasSent w (reading bytes) → AreSent w (packets_of (answers w.primary bytes))
   repeated : (i : ℕ) (m : Member) → slice_get w.members i ≡ Some m → AreSent w (ask_bytes m m.protocol.request ∷ [])
   asked_for : (number worker from : ℕ) → AreSent w ((want_for number worker from).packet ∷ [])
+  pulled_for : (number base from : ℕ) → AreSent w ((pull_for number base from).packet ∷ [])
 
 -- what becomes of one replica, and what the event answers
 pub data Change (w : World) (event : Event) (i : ℕ) (m : Member) : Output → Member → Type 0 where
-  -- nothing but the frames that it knows
-  hears : (output : Output) (known : List (List ℕ)) → IsPlain output → Change w event i m output (record m { known = known })
+  -- nothing but the frames and the pieces that it knows
+  hears : (output : Output) (known : List (List ℕ)) (pieces : KnownPieces) → IsPlain output
+      → Change w event i m output (record m { known = known; pieces = pieces })
   opens : (plan : Plan) → Change w event i m (outputs.Opened (length m.protocol.waiting + 1))
       (record m { protocol = record m.protocol { waiting = m.protocol.waiting ++ plan ∷ [] } })
-  fetches : (plans : List Plan) (head : Head)
+  fetches : (plans : List Plan) (head : Head) (pieces : KnownPieces)
       → m.protocol.batch ≡ Some (record { plans = plans; fetched = None })
       → WasSent w (Ok (datagrams.Head (own_head m.protocol head)))
       → Change w event i m (outputs.Head head.version) (record m {
+        pieces = pieces;
         protocol = record m.protocol { batch = Some (record { plans = plans; fetched = Some (fetched_by head) }) };
       })
   reports : (plans : List Plan) (fetched : Fetched) → event ≡ events.Run i
       → m.protocol.batch ≡ Some (record { plans = plans; fetched = Some fetched })
-      → Change w event i m (outputs.Report (report_of (durable_tables w fetched.version) fetched.version plans))
-      (record m { protocol = record m.protocol { version = fetched.version; batch = None } })
+      → Change w event i m (outputs.Report (report_of (durable_tables w fetched.version) fetched.version plans)) (caught_up m fetched None)
   -- out of memory behind its commits
   moves : (plans : List Plan) (fetched : Fetched) → m.protocol.batch ≡ Some (record { plans = plans; fetched = Some fetched })
-      → Change w event i m outputs.Memory (record m { protocol = record m.protocol { version = fetched.version } })
+      → Change w event i m outputs.Memory (caught_up m fetched m.protocol.batch)
   -- or amid them
-  breaks : Change w event i m outputs.Broken (record m { protocol = record m.protocol { broken = true } })
+  breaks : Change w event i m outputs.Broken (broken_at m)
   restarts : (boot : ℕ) → event ≡ events.Restart i boot → had_boot m.boots boot ≡ false
       → Change w event i m (outputs.Boot boot) (restarted w.primary.workers m boot)
 
@@ -207,6 +221,10 @@ pub data Move (w : World) (event : Event) : Output → World → Type 0 where
   asks : (i : ℕ) (m : Member) → slice_get w.members i ≡ Some m → m.protocol.batch ≡ None
       → Move w event (send (with_member w (new_batch w m)) (ask_bytes m (m.protocol.request + 1))).0
       (send (with_member w (new_batch w m)) (ask_bytes m (m.protocol.request + 1))).1
+  renews : (i : ℕ) (m : Member) (plans : List Plan) (fetched : Fetched) → event ≡ events.Renew i → slice_get w.members i ≡ Some m
+      → m.protocol.batch ≡ Some (record { plans = plans; fetched = Some fetched })
+      → Move w event (send (with_member w (renewed_batch m plans)) (ask_bytes m (m.protocol.request + 1))).0
+      (send (with_member w (renewed_batch m plans)) (ask_bytes m (m.protocol.request + 1))).1
   becomes : (i : ℕ) (m new : Member) (output : Output) → slice_get w.members i ≡ Some m → Change w event i m output new
       → Move w event output (with_member w new)
 
@@ -249,36 +267,48 @@ module _ (w : World) (event : Event) (i : ℕ) (m : Member) where
   Changed answer = Change w event i m answer.0 answer.1
 
   ignored : Changed (outputs.Ignored, m)
-  ignored = hears outputs.Ignored m.known (tt, tt)
+  ignored = hears outputs.Ignored m.known m.pieces (tt, tt)
 
   head_changes : (head : Head) (batch : Option Batch) → m.protocol.batch ≡ batch
       → WasSent w (Ok (datagrams.Head (own_head m.protocol head)))
-      → Changed (head_happens m (takes_head m.protocol head batch))
+      → Changed (head_happens m head.base (takes_head m.protocol head batch))
   head_changes head None has sent = ignored
   head_changes head (Some batch) has sent = by batch.fetched has
     where
       by : (fetched : Option Fetched) → m.protocol.batch ≡ Some (record batch { fetched = fetched })
-          → Changed (head_happens m (takes_head m.protocol head (Some (record batch { fetched = fetched }))))
+          → Changed (head_happens m head.base (takes_head m.protocol head (Some (record batch { fetched = fetched }))))
       by (Some fetched) has = ignored
-      by None has = fetches batch.plans head has sent
+      by None has = fetches batch.plans head (known_pieces (pieces_for head.base (arrived_pieces m.pieces))) has sent
+
+  piece_changes : (piece : Frame) → Changed (piece_happens m piece)
+  piece_changes piece = by (wants_piece m.protocol.version (fetched_for m.protocol.batch) piece.commit piece.seq)
+    where
+      came : Taken × List Arrivals
+      came = taken (arrived_pieces m.pieces).arrivals [] piece
+
+      by : (wanted : Bool)
+          → Changed (cond wanted (of_got (got_of came.0), record m { pieces = record m.pieces { numbers = known_of came.1 0 } })
+          (outputs.Ignored, m))
+      by false = ignored
+      by true = hears (of_got (got_of came.0)) m.known (record m.pieces { numbers = known_of came.1 0 }) (taken-plain came.0)
 
   datagram_changes : (read : Result Datagram WireFault) → WasSent w read → Changed (datagram_happens m read)
   datagram_changes (Err fault) sent = ignored
   datagram_changes (Ok (datagrams.Frame worker seq commit last entries)) sent =
       let came =
-      taken (arrived m.known) [] (record { worker = worker; seq = seq; commit = commit; last = last; entries = entries }) in
-      hears (of_got (got_of came.0)) (known_in came.1) (taken-plain came.0)
+      taken (arrived m.known) (bases_for m.protocol.version (fetched_for m.protocol.batch))
+      (record { worker = worker; seq = seq; commit = commit; last = last; entries = entries }) in
+      hears (of_got (got_of came.0)) (known_in came.1) m.pieces (taken-plain came.0)
   datagram_changes (Ok (datagrams.Ask replica boot request)) sent = ignored
-  datagram_changes (Ok (datagrams.Head head)) sent = by (is_own m.protocol head) (nat_le head.base m.protocol.version) refl
+  datagram_changes (Ok (datagrams.Head head)) sent = by (is_own m.protocol head) refl
     where
-      by : (own based : Bool) → is_own m.protocol head ≡ own
-          → Changed (cond (own && based) (head_happens m (takes_head m.protocol head m.protocol.batch)) (outputs.Ignored, m))
-      by false based e = ignored
-      by true false e = ignored
-      by true true e =
+      by : (own : Bool) → is_own m.protocol head ≡ own
+          → Changed (cond own (head_happens m head.base (takes_head m.protocol head m.protocol.batch)) (outputs.Ignored, m))
+      by false e = ignored
+      by true e =
           head_changes head m.protocol.batch refl (subst (λ (h : Head). WasSent w (Ok (datagrams.Head h))) (own-is m.protocol head e) sent)
   datagram_changes (Ok (datagrams.Want replica worker from)) sent = ignored
-  datagram_changes (Ok (datagrams.Piece base number last entries)) sent = ignored
+  datagram_changes (Ok (datagrams.Piece base number last entries)) sent = piece_changes (piece_frame base number last entries)
   datagram_changes (Ok (datagrams.Pull replica base from)) sent = ignored
 
 -- ---- any event
@@ -399,11 +429,25 @@ module _ (w : World) (event : Event) where
       by None = sends (send w (ask_bytes m m.protocol.request)).0 (ask_bytes m m.protocol.request ∷ []) (tt, tt) (repeated i m here)
       by (Some fetched) = idle outputs.Busy (tt, tt)
 
+  renewing : (i : ℕ) (m : Member) (broken : Bool) (batch : Option Batch) → event ≡ events.Renew i → slice_get w.members i ≡ Some m
+      → m.protocol.batch ≡ batch → Moved (renew_happens w m (cond broken (Err ask_faults.Broken) (renews_by m.protocol batch)))
+  renewing i m true batch is here has = idle outputs.Broken (tt, tt)
+  renewing i m false None is here has = idle outputs.Empty (tt, tt)
+  renewing i m false (Some batch) is here has = by batch.fetched has
+    where
+      by : (fetched : Option Fetched) → m.protocol.batch ≡ Some (record batch { fetched = fetched })
+          → Moved (renew_happens w m (renews_by m.protocol (Some (record batch { fetched = fetched }))))
+      by None has = idle outputs.NoHead (tt, tt)
+      by (Some fetched) has = renews i m batch.plans fetched is here has
+
   running : (i : ℕ) (m : Member) (found : Readiness) → slice_get w.members i ≡ Some m → event ≡ events.Run i → Found m.protocol found
       → Moved (run_happens w m found)
   running i m Broken here is has = idle outputs.Broken (tt, tt)
   running i m NoBatch here is has = idle outputs.NoBatch (tt, tt)
   running i m WaitsForHead here is has = idle outputs.WaitingHead (tt, tt)
+  running i m (WaitsForPiece base number) here is has =
+      sends (run_happens w m (WaitsForPiece base number)).0 ((pull_for m.protocol.number base number).packet ∷ []) (tt, tt)
+      (pulled_for m.protocol.number base number)
   running i m (WaitsForFrame worker seq) here is has =
       sends (run_happens w m (WaitsForFrame worker seq)).0 ((want_for m.protocol.number worker seq).packet ∷ []) (tt, tt)
       (asked_for m.protocol.number worker seq)
@@ -431,7 +475,7 @@ module _ (w : World) (event : Event) where
           (subst (Move w event answer) (sym left) (becomes i m after answer here change))
 
       by : (found : Readiness) → Found m.protocol found → fetched_in found ≡ Some cut.0
-          → Change w event i m outputs.Memory (record m { protocol = record m.protocol { version = cut.0.version } })
+          → Change w event i m outputs.Memory (caught_up m cut.0 m.protocol.batch)
       by (Ready plans held) has fetched =
           moves plans cut.0 (has ∙ ap (λ (f : Option Fetched). Some (record { plans = plans; fetched = f })) fetched)
       by other has fetched = absurd (none-some cut.0 fetched)
@@ -476,6 +520,9 @@ happening w (events.Open replica plan) =
 happening w (events.Ask replica) =
     at_member w _ replica (slice_get w.members replica) _ refl
     (λ m here. asking w _ replica m m.protocol.broken m.protocol.batch here refl)
+happening w (events.Renew replica) =
+    at_member w _ replica (slice_get w.members replica) _ refl
+    (λ m here. renewing w _ replica m m.protocol.broken m.protocol.batch refl here refl)
 happening w (events.Run replica) =
     at_member w _ replica (slice_get w.members replica) _ refl
     (λ m here. running w _ replica m (readiness_at m) here refl (found-is m))

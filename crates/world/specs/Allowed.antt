@@ -8,16 +8,20 @@ use Rattle.script.specs.declared.event.Event.{Event}
 use Rattle.script.specs.declared.event.Event.TheVariants as events
 use Rattle.script.specs.declared.output.Output.{Output}
 use Rattle.script.specs.declared.output.Output.TheVariants as outputs
-use Rattle.world.specs.Steps.{World, Member, happens, with_member, readiness_at}
+use Rattle.world.specs.Steps.{World, Member, none_known, happens, with_member, readiness_at, caught_up}
 
--- a run that is out of memory at a replica that has fetched a version and lacks no frame: it stands at the old version or at the
--- fetched one and may run again; or it is broken, if there was a commit to apply
+-- a replica that is broken: its pieces are gone
+abbrev pub broken_at : Member → Member
+broken_at m = record m { pieces = none_known m.pieces.base; protocol = record m.protocol { broken = true } }
+
+-- a run that is out of memory at a replica that has fetched a version and lacks nothing: it stands at the old version or at the
+-- fetched one and may run again; or it is broken, if there was something to apply
 abbrev pub RunIsInterrupted : World → Option Member → Output → World → Type 0
 RunIsInterrupted old None output new = ⊥
 RunIsInterrupted old (Some m) output new =
     (fetched : Fetched) × (fetched_in (readiness_at m) ≡ Some fetched)
-    × (((output ≡ outputs.Memory) × (new ≡ with_member old (record m { protocol = record m.protocol { version = fetched.version } })))
-    ⊎ ((output ≡ outputs.Broken) × (new ≡ with_member old (record m { protocol = record m.protocol { broken = true } }))
+    × (((output ≡ outputs.Memory) × (new ≡ with_member old (caught_up m fetched m.protocol.batch)))
+    ⊎ ((output ≡ outputs.Broken) × (new ≡ with_member old (broken_at m))
     × (m.protocol.version < fetched.version)))
 
 abbrev pub RunIsInterruptedAt : World → Event → Output → World → Type 0
@@ -35,6 +39,7 @@ takes_memory (outputs.Sent datagrams) = true
 takes_memory outputs.Stored = true
 takes_memory (outputs.Shown bytes) = true
 takes_memory (outputs.Opened count) = true
+takes_memory (outputs.WaitingPiece number pull) = true
 takes_memory (outputs.Waiting worker seq want) = true
 takes_memory (outputs.Report text) = true
 takes_memory (outputs.Dump text) = true

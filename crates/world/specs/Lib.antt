@@ -7,6 +7,7 @@ pub mod Worked
 pub mod Cores
 pub mod Standing
 pub mod Database
+pub mod Renewals
 pub mod Theorem
 pub mod Scripts
 pub mod Inner

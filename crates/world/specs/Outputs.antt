@@ -45,10 +45,11 @@ of_open (opens.BadPlan fault) = outputs.BadPlan fault
 of_open opens.Broken = outputs.Broken
 of_open opens.Memory = outputs.Memory
 
--- a refused ask
+-- a refused ask or renewal
 abbrev pub of_ask : AskFault → Output
 of_ask asks.Busy = outputs.Busy
 of_ask asks.Empty = outputs.Empty
+of_ask asks.NoHead = outputs.NoHead
 of_ask asks.Broken = outputs.Broken
 
 -- what a replica made of bytes

@@ -11,11 +11,17 @@ use Rattle.dispatcher.specs.Feeding.{IsFedFrom}
 use Rattle.script.specs.declared.event.Event.{Event}
 use Rattle.script.specs.declared.event.Event.TheVariants as events
 use Rattle.world.specs.Cores.{Cores}
-use Rattle.world.specs.Steps.{World, Member, known_in}
+use Rattle.world.specs.Steps.{World, Member, known_in, known_pieces}
 
--- a replica that had these boots, as the world has it: its tables are left out, and which frames it still keeps
+-- a replica that had these boots, as the world has it: its tables are left out, and which frames and pieces it still keeps
 abbrev pub member_of : List ℕ → ℕ → Replica → Member
-member_of boots asked_at r = record { boots = boots; asked_at = asked_at; known = known_in r.arrivals; protocol = protocol_of r }
+member_of boots asked_at r = record {
+  boots = boots;
+  asked_at = asked_at;
+  known = known_in r.arrivals;
+  pieces = known_pieces r.pieces;
+  protocol = protocol_of r;
+}
 
 -- the boots that the replica of this number had; none if there is no such replica
 abbrev pub boots_at : List (List ℕ) → ℕ → List ℕ
@@ -44,7 +50,7 @@ TablesAgree p q =
     → other.broken ≡ false
     → r.version ≡ other.version → r.tables ≡ other.tables
 
--- each replica is fed from what is durable: its known frames and its tables are of that one list
+-- each replica is fed from what is durable: its known frames, its known pieces and its tables are of that one list
 abbrev pub AreFed : Cores → Type 0
 AreFed p = AllByRecursion (IsFedFrom (shape_of p.primary.schema) p.primary.durable) p.replicas
 

@@ -1,7 +1,7 @@
 -- The world: one primary, its open transactions, every datagram that was ever sent, and of each replica what it knows.
 -- No replica's tables are held: what a batch answers is specified by the one list of durable commits.
 use Rattle.std.specs.Prelude.{ℕ, zero, suc, List, [], ◌∷◌, ◌++◌, length, Bool, true, false, Option, None, Some, Result, Ok, Err}
-use Rattle.std.specs.Prelude.{slice_get, slice_set, replicate, map, ◌==◌, ◌&&◌, not, nat_le, if◌then◌else◌, is_ok}
+use Rattle.std.specs.Prelude.{slice_get, slice_set, replicate, map, ◌==◌, ◌&&◌, not, if◌then◌else◌, is_ok}
 use Rattle.std.specs.List.{list_any}
 use Rattle.std.specs.Option.{option_and_then}
 use Rattle.std.specs.Str.{bytes_eq}
@@ -18,8 +18,9 @@ use Rattle.mvcc.specs.declared.faults.TxFault.{TxFault}
 use Rattle.mvcc.specs.Transaction.{Transaction}
 use Rattle.mvcc.specs.Transactions.{insert_answer, set_answer, delete_answer, add_column_answer, get_answer}
 use Rattle.intake.specs.declared.taken.Taken.{Taken}
-use Rattle.intake.specs.State.{Arrivals}
-use Rattle.intake.specs.Steps.{taken, lacking}
+use Rattle.intake.specs.State.{Arrivals, known_of}
+use Rattle.intake.specs.Steps.{taken, gained}
+use Rattle.update_log.specs.declared.frame.Frame.{Frame}
 use Rattle.primary.specs.declared.faults.CommitFault.{CommitFault}
 use Rattle.primary.specs.State.{Primary}
 use Rattle.primary.specs.Steps.{started_primary, commit_answer, committed, flushed, based}
@@ -28,9 +29,11 @@ use Rattle.queries.specs.Checking.{checked}
 use Rattle.dispatcher.specs.declared.faults.AskFault.{AskFault}
 use Rattle.dispatcher.specs.declared.faults.OpenFault.{OpenFault}
 use Rattle.dispatcher.specs.declared.outcome.Got.{Got}
-use Rattle.dispatcher.specs.State.{Batch, Protocol}
-use Rattle.dispatcher.specs.Protocol.{started_protocol, opens_query, asks_version, want_for, is_own, takes_head, readiness}
-use Rattle.dispatcher.specs.Protocol.{Readiness, Broken, NoBatch, WaitsForHead, WaitsForFrame, Ready}
+use Rattle.dispatcher.specs.State.{Batch, Fetched, Pieces, Protocol}
+use Rattle.dispatcher.specs.Images.{piece_frame}
+use Rattle.dispatcher.specs.Protocol.{started_protocol, opens_query, asks_version, renews_version, want_for, pull_for, is_own, takes_head}
+use Rattle.dispatcher.specs.Protocol.{bases_at, bases_for, fetched_for, wants_piece, pieces_after, lack_at, readiness}
+use Rattle.dispatcher.specs.Protocol.{Readiness, Broken, NoBatch, WaitsForHead, WaitsForPiece, WaitsForFrame, Ready}
 use Rattle.dispatcher.specs.Steps.{got_of}
 use Rattle.dispatcher.specs.Report.{report_of}
 use Rattle.dispatcher.specs.TableText.{names_of, table_text}
@@ -44,6 +47,15 @@ use Rattle.script.specs.declared.setup.Setup.{Setup}
 use Rattle.world.specs.Outputs.{of_change, of_look, of_commit, of_answers, packets_of, of_open, of_ask, of_got}
 use Rattle.world.specs.Stops.{stopped_at, closed}
 
+-- what is known of an image: its base, and the numbers of the known pieces, each once, in rising order
+pub record KnownPieces : Type 0 where
+  pub base : ℕ
+  pub numbers : List ℕ
+
+-- no piece is known of the image at this base
+abbrev pub none_known : ℕ → KnownPieces
+none_known base = record { base = base; numbers = [] }
+
 -- a replica as the world has it, without tables
 pub record Member : Type 0 where
   -- the boots that it had, in the order of its starts; it is in the newest of those
@@ -52,6 +64,8 @@ pub record Member : Type 0 where
   pub asked_at : ℕ
   -- by worker, the seqs of its known frames, each once, in rising order
   pub known : List (List ℕ)
+  -- the known pieces of the newest image that it goes by
+  pub pieces : KnownPieces
   -- the rest of it
   pub protocol : Protocol
 
@@ -69,8 +83,13 @@ pub record World : Type 0 where
 
 -- a replica of so many workers, fresh from its start with boot 1
 abbrev pub fresh : ℕ → ℕ → Member
-fresh workers number =
-    record { boots = 1 ∷ []; asked_at = 0; known = replicate workers []; protocol = started_protocol number 1 }
+fresh workers number = record {
+  boots = 1 ∷ [];
+  asked_at = 0;
+  known = replicate workers [];
+  pieces = none_known 0;
+  protocol = started_protocol number 1;
+}
 
 -- whether a boot is one of these
 abbrev pub had_boot : List ℕ → ℕ → Bool
@@ -81,6 +100,7 @@ abbrev pub restarted : ℕ → Member → ℕ → Member
 restarted workers m boot = record m {
   boots = m.boots ++ boot ∷ [];
   known = replicate workers [];
+  pieces = none_known 0;
   protocol = started_protocol m.protocol.number boot;
 }
 
@@ -185,23 +205,41 @@ arrived known = map (λ seqs. record { known = seqs; kept = [] }) known
 abbrev pub known_in : List Arrivals → List (List ℕ)
 known_in arrivals = map (λ (of_worker : Arrivals). of_worker.known) arrivals
 
+-- the pieces that have come where these are known, and none is kept
+abbrev pub arrived_pieces : KnownPieces → Pieces
+arrived_pieces pieces = record { base = pieces.base; arrivals = arrived (pieces.numbers ∷ []) }
+
+-- the pieces that are known
+abbrev pub known_pieces : Pieces → KnownPieces
+known_pieces pieces = record { base = pieces.base; numbers = known_of pieces.arrivals 0 }
+
 -- what the intake makes of a frame that comes to a replica, and the replica after it. All that was sent is of the durable list, so
 -- its worker is there and its entries fit
 abbrev pub frame_happens : Member → Taken × List Arrivals → Output × Member
 frame_happens m came = (of_got (got_of came.0), record m { known = known_in came.1 })
 
--- what the protocol makes of a Head that comes to a replica. It counts the frames at a durable version that is no older than the
--- replica's
-abbrev pub head_happens : Member → Got × Protocol → Output × Member
-head_happens m came = (of_got came.0, record m { protocol = came.1 })
+-- a piece that comes, as a frame: it is taken if the replica's batch goes by its base and wants its number
+abbrev pub piece_happens : Member → Frame → Output × Member
+piece_happens m piece =
+    if wants_piece m.protocol.version (fetched_for m.protocol.batch) piece.commit piece.seq then (
+      of_got (got_of (taken (arrived_pieces m.pieces).arrivals [] piece).0),
+      record m { pieces = record m.pieces { numbers = known_of (taken (arrived_pieces m.pieces).arrivals [] piece).1 0 } },
+    ) else (outputs.Ignored, m)
 
--- a datagram that comes to a replica. A Head is ignored if its base is above the replica's version, and so are the pieces of a base
+-- what the protocol makes of a Head that comes to a replica. It counts the frames at a durable version that is no older than the
+-- replica's. Once it is taken, the pieces of another base are forgotten
+abbrev pub head_happens : Member → ℕ → Got × Protocol → Output × Member
+head_happens m base came =
+    (of_got came.0, record m { pieces = known_pieces (pieces_after came.0 base (arrived_pieces m.pieces)); protocol = came.1 })
+
+-- a datagram that comes to a replica. Where its batch goes by image, the window of frames is counted from the bases on
 abbrev pub datagram_happens : Member → Result Datagram WireFault → Output × Member
 datagram_happens m (Ok (datagrams.Frame worker seq commit last entries)) =
-    frame_happens m (taken (arrived m.known) [] (record { worker = worker; seq = seq; commit = commit; last = last; entries = entries }))
+    frame_happens m (taken (arrived m.known) (bases_for m.protocol.version (fetched_for m.protocol.batch))
+    (record { worker = worker; seq = seq; commit = commit; last = last; entries = entries }))
 datagram_happens m (Ok (datagrams.Head head)) =
-    if is_own m.protocol head && nat_le head.base m.protocol.version
-    then head_happens m (takes_head m.protocol head m.protocol.batch) else (outputs.Ignored, m)
+    if is_own m.protocol head then head_happens m head.base (takes_head m.protocol head m.protocol.batch) else (outputs.Ignored, m)
+datagram_happens m (Ok (datagrams.Piece base number last entries)) = piece_happens m (piece_frame base number last entries)
 datagram_happens m other = (outputs.Ignored, m)
 
 -- what happens at a replica that is there
@@ -257,6 +295,17 @@ ask_happens w m (Ok asked) None =
     send (with_member w (record m { asked_at = length w.primary.durable; protocol = asked.1 })) asked.0.packet
 ask_happens w m (Ok asked) (Some batch) = send w asked.0.packet
 
+-- a replica gives up what was fetched for its batch and asks anew, by what the protocol makes of it. How many commits were durable
+-- when the batch asked stays
+abbrev pub renew_happens : World → Member → Result (Out × Protocol) AskFault → Output × World
+renew_happens w m (Err fault) = (of_ask fault, w)
+renew_happens w m (Ok renewed) = send (with_member w (record m { protocol = renewed.1 })) renewed.0.packet
+
+-- a run waits for a piece, and sends a Pull
+abbrev pub pull_happens : World → ℕ → List ℕ → Output × World
+pull_happens w number bytes =
+    (outputs.WaitingPiece number (record { index = length w.sent; len = length bytes }), record w { sent = w.sent ++ bytes ∷ [] })
+
 -- a run waits for a frame, and sends a Want
 abbrev pub wait_happens : World → ℕ → ℕ → List ℕ → Output × World
 wait_happens w worker seq bytes =
@@ -264,18 +313,29 @@ wait_happens w worker seq bytes =
 
 -- what a run of a replica finds
 abbrev pub readiness_at : Member → Readiness
-readiness_at m = readiness m.protocol.broken m.protocol.batch (lacking (arrived m.known) [])
+readiness_at m =
+    readiness m.protocol.broken m.protocol.batch (lack_at m.protocol.version (arrived_pieces m.pieces) (arrived m.known))
 
--- a run, by what it finds. A batch of which no frame is missing is answered by its report: the plain answers on the rows after
+-- a replica once it has caught up with what was fetched: if that was by image, each frame that the image stands for is known, and no
+-- piece any more
+abbrev pub caught_up : Member → Fetched → Option Batch → Member
+caught_up m fetched batch = record m {
+  known = known_in (gained (arrived m.known) (bases_at m.protocol.version fetched));
+  pieces = none_known 0;
+  protocol = record m.protocol { version = fetched.version; batch = batch };
+}
+
+-- a run, by what it finds. A batch for which nothing is missing is answered by its report: the plain answers on the rows after
 -- exactly the first commits of the durable list, up to the version that was fetched
 abbrev pub run_happens : World → Member → Readiness → Output × World
 run_happens w m Broken = (outputs.Broken, w)
 run_happens w m NoBatch = (outputs.NoBatch, w)
 run_happens w m WaitsForHead = (outputs.WaitingHead, w)
+run_happens w m (WaitsForPiece base number) = pull_happens w number (pull_for m.protocol.number base number).packet
 run_happens w m (WaitsForFrame worker seq) = wait_happens w worker seq (want_for m.protocol.number worker seq).packet
 run_happens w m (Ready plans fetched) = (
   outputs.Report (report_of (durable_tables w fetched.version) fetched.version plans),
-  with_member w (record m { protocol = record m.protocol { version = fetched.version; batch = None } }),
+  with_member w (caught_up m fetched None),
 )
 
 -- ---- looks at a replica
@@ -332,6 +392,8 @@ happens w (events.Open replica plan) =
     (λ m. open_happens w m (opens_query m.protocol plan (checked (shape_in (durable_tables w m.protocol.version)) plan)))
 happens w (events.Ask replica) =
     on_member w (slice_get w.members replica) (λ m. ask_happens w m (asks_version m.protocol) m.protocol.batch)
+happens w (events.Renew replica) =
+    on_member w (slice_get w.members replica) (λ m. renew_happens w m (renews_version m.protocol))
 happens w (events.Run replica) = on_member w (slice_get w.members replica) (λ m. run_happens w m (readiness_at m))
 happens w (events.Version replica) = on_member w (slice_get w.members replica) (λ m. (outputs.Version m.protocol.version, w))
 happens w (events.Dump replica) =

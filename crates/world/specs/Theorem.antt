@@ -22,7 +22,8 @@ use Rattle.world.specs.Cores.{Cores, Opening, cores_started}
 use Rattle.world.specs.Steps.{World, Member, opening_world}
 use Rattle.world.specs.Acknowledged.{KeepsAcknowledged}
 use Rattle.world.specs.Allowed.{Step, LeadsTo, events_in, outputs_in, Runs}
-use Rattle.world.specs.Database.{Reader, Database, new_database, IsDatabaseRun, IsPromised}
+use Rattle.world.specs.Database.{Reader, Database, new_database, IsPromised}
+use Rattle.world.specs.Renewals.{IsRunWithRenewals, IsPromisedWithRenewals, RenewsNothing}
 use Rattle.world.specs.Standing.{world_of, AreFed, TablesAgree, JournalStands, LeavesOnJournal}
 
 -- ---- what a step keeps
@@ -95,13 +96,13 @@ reader_of m = record { version = m.protocol.version; batch = option_map (seen_ba
 abbrev pub database_of : World → Database
 database_of w = record { commits = w.primary.durable; readers = map reader_of w.members }
 
--- each run of the world by events that are possible, whoever makes it, is one of the database
+-- each run of the world by events that are possible, whoever makes it, is one of the database, where versions are renewed
 abbrev pub RunsAreOfDatabase : Type 0
 RunsAreOfDatabase =
     (setup : Setup) (durable : List Commit) (stopped : Bool) (steps : List (Step World)) (end : World) → length durable < 2 ^ 64
     → setup.replicas ≤ replicas_max → AllByRecursion (IsPossible setup.workers setup.replicas) (events_in steps)
     → Runs (opening_world setup durable stopped) steps end
-    → IsDatabaseRun setup.schema (new_database durable setup.replicas) (outputs_in steps) (database_of end)
+    → IsRunWithRenewals setup.schema (new_database durable setup.replicas) (events_in steps) (outputs_in steps) (database_of end)
 
 -- ---- a run of the cores
 
@@ -137,7 +138,7 @@ pub record AreOfOneRun (opening : Opening) (events : List Event) (outputs : List
   pub exact : IsExact run.end.primary.durable (map seen run.steps)
   pub legal : IsLegal (shape_of opening.setup.schema) opening.setup.workers run.end.primary.durable
   pub cores : CoresStand opening run.steps
-  pub database : IsDatabaseRun opening.setup.schema (new_database opening.durable opening.setup.replicas) outputs
+  pub database : IsRunWithRenewals opening.setup.schema (new_database opening.durable opening.setup.replicas) events outputs
       (database_of (world_of run.end))
 
 -- ---- what is promised of outputs
@@ -155,7 +156,9 @@ HasOneDumpOfVersion outputs =
 
 -- all that is promised of the outputs of events
 pub record KeepsPromises (opening : Opening) (events : List Event) (outputs : List Output) : Type 0 where
-  pub promise : IsPromised opening.setup.schema opening.durable opening.setup.replicas outputs
+  -- where no event renews a version, the outputs are those of the page; and else of the page with renewals
+  pub promise : AllByRecursion RenewsNothing events → IsPromised opening.setup.schema opening.durable opening.setup.replicas outputs
+  pub renewed : IsPromisedWithRenewals opening.setup.schema opening.durable opening.setup.replicas events outputs
   pub each : length outputs ≡ length events
   pub run : AreOfOneRun opening events outputs
   pub dumps : HasOneDumpOfVersion outputs

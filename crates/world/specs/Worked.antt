@@ -1,6 +1,7 @@
 -- Events with what they are to answer: three scripts, `examples/first-commit.script`, `examples/lost-frame.script` and
 -- `examples/conflict.script`; write skew; each refusal of a transaction's calls; stops and starts; bases; two queries of one batch; a
--- column that is added; and two workers. One table of two `int` columns; one worker and one replica but for the last.
+-- column that is added; two workers; an image; and a renewal. One table of two `int` columns; one worker and one replica but for the
+-- last three.
 use Rattle.std.specs.Prelude.{ℕ, false, ◌∷◌, [], List, None, Some, pos, negsuc, codes, ◌++◌}
 use Rattle.rows.specs.declared.kind.Kind.TheVariants.{Int as IntKind}
 use Rattle.rows.specs.declared.row_id.RowId.{RowId}
@@ -11,7 +12,7 @@ use Rattle.queries.specs.declared.faults.PlanFault.TheVariants.{NoColumn}
 use Rattle.queries.specs.declared.plan.Plan.{Plan}
 use Rattle.script.specs.declared.event.Event.{Event}
 use Rattle.script.specs.declared.event.Event.TheVariants.{Begin, Insert, Set, Delete, Get, Commit, Abort, Flush, Stop, Start}
-use Rattle.script.specs.declared.event.Event.TheVariants.{AddColumn, Base, Push, Deliver, Show, Open, Ask, Run, Dump}
+use Rattle.script.specs.declared.event.Event.TheVariants.{AddColumn, Base, Push, Deliver, Show, Open, Ask, Renew, Run, Dump}
 use Rattle.script.specs.declared.event.Node.TheVariants.{Primary, Replica}
 use Rattle.script.specs.declared.output.Output.{Output}
 use Rattle.script.specs.declared.output.Output.TheVariants as outputs
@@ -151,14 +152,16 @@ stops_outputs =
     ∷ outputs.NoTx ∷ outputs.Running ∷ outputs.Sent (record { index = 0; len = 54 } ∷ [])
     ∷ outputs.Tx 3 1 ∷ outputs.Accepted ∷ outputs.Ticket 2 ∷ outputs.Stopped ∷ outputs.Durable 1 ∷ []
 
--- a base holds the tables after what is durable, here in one piece, and the frames of these commits are not kept; what is pending is
--- not in it. A replica ignores a Head whose base is above its version. A stop ends the base: after a start all frames are there
+-- a base holds the tables after what is durable, here in one piece; the frames of these commits are gone. A batch whose Head has a base
+-- above the replica's version waits for a piece. After a stop and a start all frames are there, but no piece, so the batch has to
+-- renew. It then goes by frames
 abbrev pub bases : List Event
 bases =
     Base ∷ commit_and_push ++ Base ∷ Push 0 0 ∷ commit_of 1 other_account 0 ++ Base ∷ Flush 1 ∷ Push 0 1
     ∷ Open 0 count_rows ∷ Ask 0 ∷ Deliver 2 Primary ∷ Deliver 3 (Replica 0) ∷ Run 0
-    ∷ Stop 0 ∷ Base ∷ Start ∷ Push 0 0 ∷ Deliver 2 Primary ∷ Deliver 5 (Replica 0) ∷ Deliver 1 (Replica 0) ∷ Deliver 4 (Replica 0) ∷ Run 0
-    ∷ Base ∷ Open 0 count_rows ∷ Ask 0 ∷ Deliver 6 Primary ∷ Deliver 7 (Replica 0) ∷ Run 0 ∷ []
+    ∷ Stop 0 ∷ Base ∷ Start ∷ Push 0 0 ∷ Deliver 4 Primary ∷ Renew 0 ∷ Deliver 6 Primary ∷ Deliver 3 (Replica 0) ∷ Deliver 7 (Replica 0)
+    ∷ Deliver 1 (Replica 0) ∷ Deliver 5 (Replica 0) ∷ Run 0
+    ∷ Base ∷ Open 0 count_rows ∷ Ask 0 ∷ Deliver 8 Primary ∷ Deliver 9 (Replica 0) ∷ Run 0 ∷ []
 
 abbrev pub bases_outputs : List Output
 bases_outputs =
@@ -166,12 +169,12 @@ bases_outputs =
     ∷ outputs.Tx 1 1 ∷ outputs.Accepted ∷ outputs.Ticket 2
     ∷ outputs.Based 1 1 ∷ outputs.Durable 2 ∷ outputs.Sent (record { index = 1; len = 54 } ∷ [])
     ∷ outputs.Opened 1 ∷ outputs.Sent (record { index = 2; len = 23 } ∷ []) ∷ outputs.Sent (record { index = 3; len = 64 } ∷ [])
-    ∷ outputs.Ignored ∷ outputs.WaitingHead
-    ∷ outputs.Stopped ∷ outputs.Stopped ∷ outputs.Durable 2 ∷ outputs.Sent (record { index = 4; len = 54 } ∷ [])
-    ∷ outputs.Sent (record { index = 5; len = 64 } ∷ []) ∷ outputs.Head 2 ∷ outputs.Stored ∷ outputs.Stored
-    ∷ outputs.Report (codes "version 2 queries 1\nquery 0 rows 1\n2\n")
-    ∷ outputs.Based 2 1 ∷ outputs.Opened 1 ∷ outputs.Sent (record { index = 6; len = 23 } ∷ [])
-    ∷ outputs.Sent (record { index = 7; len = 64 } ∷ []) ∷ outputs.Head 2
+    ∷ outputs.Head 2 ∷ outputs.WaitingPiece 0 (record { index = 4; len = 23 })
+    ∷ outputs.Stopped ∷ outputs.Stopped ∷ outputs.Durable 2 ∷ outputs.Sent (record { index = 5; len = 54 } ∷ []) ∷ outputs.Ignored
+    ∷ outputs.Sent (record { index = 6; len = 23 } ∷ []) ∷ outputs.Sent (record { index = 7; len = 64 } ∷ []) ∷ outputs.Ignored
+    ∷ outputs.Head 2 ∷ outputs.Stored ∷ outputs.Stored ∷ outputs.Report (codes "version 2 queries 1\nquery 0 rows 1\n2\n")
+    ∷ outputs.Based 2 1 ∷ outputs.Opened 1 ∷ outputs.Sent (record { index = 8; len = 23 } ∷ [])
+    ∷ outputs.Sent (record { index = 9; len = 64 } ∷ []) ∷ outputs.Head 2
     ∷ outputs.Report (codes "version 2 queries 1\nquery 0 rows 1\n2\n") ∷ []
 
 -- of each row with the row that its first column names: how many there are, and the sum of their second columns, for each
@@ -251,3 +254,39 @@ two_workers_outputs =
     ∷ outputs.Sent (record { index = 3; len = 80 } ∷ []) ∷ outputs.Ignored ∷ outputs.Head 2
     ∷ outputs.Waiting 0 0 (record { index = 4; len = 16 }) ∷ outputs.Sent (record { index = 5; len = 54 } ∷ [])
     ∷ outputs.Stored ∷ outputs.Repeat ∷ outputs.Report (codes "version 2 queries 1\nquery 0 rows 1\n2\n") ∷ []
+
+-- a batch goes by image: it waits for the piece first and then for the frame behind the base, and a piece that is known is not taken
+-- again. After the report it is ignored
+abbrev pub image : List Event
+image =
+    commit_of 0 account 0 ++ Flush 1 ∷ Base ∷ Push 0 0 ∷ commit_of 1 other_account 1 ++ Flush 1 ∷ Open 0 count_rows ∷ Ask 0
+    ∷ Deliver 0 Primary ∷ Deliver 1 (Replica 0) ∷ Run 0 ∷ Deliver 2 Primary ∷ Deliver 3 (Replica 0) ∷ Deliver 3 (Replica 0) ∷ Run 0
+    ∷ Deliver 4 Primary ∷ Deliver 5 (Replica 0) ∷ Run 0 ∷ Deliver 3 (Replica 0) ∷ Dump 0 ∷ []
+
+abbrev pub image_outputs : List Output
+image_outputs =
+    outputs.Tx 0 0 ∷ outputs.Accepted ∷ outputs.Ticket 1 ∷ outputs.Durable 1 ∷ outputs.Based 1 1 ∷ outputs.NoFrame
+    ∷ outputs.Tx 1 1 ∷ outputs.Accepted ∷ outputs.Ticket 2 ∷ outputs.Durable 2
+    ∷ outputs.Opened 1 ∷ outputs.Sent (record { index = 0; len = 23 } ∷ []) ∷ outputs.Sent (record { index = 1; len = 80 } ∷ [])
+    ∷ outputs.Head 2 ∷ outputs.WaitingPiece 0 (record { index = 2; len = 23 }) ∷ outputs.Sent (record { index = 3; len = 53 } ∷ [])
+    ∷ outputs.Stored ∷ outputs.Repeat ∷ outputs.Waiting 1 0 (record { index = 4; len = 16 })
+    ∷ outputs.Sent (record { index = 5; len = 54 } ∷ []) ∷ outputs.Stored
+    ∷ outputs.Report (codes "version 2 queries 1\nquery 0 rows 1\n2\n")
+    ∷ outputs.Ignored ∷ outputs.Dump (codes "version 2 rows 2\nacct 7 5 -1\nacct 8 5 -1\n") ∷ []
+
+-- a base is taken while a batch waits for a frame, which is then not sent any more. The replica gives up the version that was fetched,
+-- and asks with the next request; the Head of the one before is not taken. There has to be a batch, and its version
+abbrev pub renewal : List Event
+renewal =
+    commit_of 0 account 0 ++ Flush 1 ∷ Open 0 count_rows ∷ Renew 0 ∷ Ask 0 ∷ Renew 0 ∷ Deliver 0 Primary ∷ Deliver 1 (Replica 0) ∷ Base
+    ∷ Run 0 ∷ Deliver 2 Primary ∷ Renew 0 ∷ Deliver 1 (Replica 0) ∷ Deliver 3 Primary ∷ Deliver 4 (Replica 0) ∷ Run 0
+    ∷ Deliver 5 Primary ∷ Deliver 6 (Replica 0) ∷ Run 0 ∷ []
+
+abbrev pub renewal_outputs : List Output
+renewal_outputs =
+    outputs.Tx 0 0 ∷ outputs.Accepted ∷ outputs.Ticket 1 ∷ outputs.Durable 1 ∷ outputs.Opened 1 ∷ outputs.Empty
+    ∷ outputs.Sent (record { index = 0; len = 23 } ∷ []) ∷ outputs.NoHead ∷ outputs.Sent (record { index = 1; len = 80 } ∷ [])
+    ∷ outputs.Head 1 ∷ outputs.Based 1 1 ∷ outputs.Waiting 0 0 (record { index = 2; len = 16 }) ∷ outputs.Ignored
+    ∷ outputs.Sent (record { index = 3; len = 23 } ∷ []) ∷ outputs.Ignored ∷ outputs.Sent (record { index = 4; len = 80 } ∷ [])
+    ∷ outputs.Head 1 ∷ outputs.WaitingPiece 0 (record { index = 5; len = 23 }) ∷ outputs.Sent (record { index = 6; len = 53 } ∷ [])
+    ∷ outputs.Stored ∷ outputs.Report report ∷ []

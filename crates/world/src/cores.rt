@@ -194,6 +194,7 @@ pub fn store_of(
 ) -> Result<ColumnStore, AllocError>
     ensures tables { IfOk result (λ store. tables_in store.partitions ≡ opening (shape_of schema.now)) }
     ensures whole { IfOk result (λ store. store.whole ≡ true) }
+    ensures base { IfOk result (λ store. store.base_shape ≡ shape_of schema.now) }
 {
     let partitions = if partitions == 0 {
         1

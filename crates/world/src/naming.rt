@@ -69,7 +69,7 @@ pub fn open_output(fault: OpenFault) -> Output
     }
 }
 
-/// The output for a refused ask.
+/// The output for a refused ask or renewal.
 pub fn ask_output(fault: AskFault) -> Output
     ensures { result ≡ of_ask fault }
 {
@@ -77,6 +77,7 @@ pub fn ask_output(fault: AskFault) -> Output
         AskFault::Busy => Output::Busy,
         AskFault::Empty => Output::Empty,
         AskFault::Broken => Output::Broken,
+        AskFault::NoHead => Output::NoHead,
     }
 }
 

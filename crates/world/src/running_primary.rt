@@ -1,12 +1,13 @@
 //! A primary that runs, between two events.
 
-ghost use Rattle.std.specs.Prelude.{◌≡◌, ◌<◌, ◌≤◌, ◌++◌, ℕ, length, true, false, Ok, IfOk, IfErr, OnErr};
+ghost use Rattle.std.specs.Prelude.{◌≡◌, ◌^◌, ◌<◌, ◌≤◌, ◌++◌, ℕ, length, true, false, Ok, IfOk, IfErr, OnErr};
 ghost use Rattle.std.specs.List.{AllByRecursion};
 ghost use Rattle.rows.specs.Faults.{IsFaultOf};
 ghost use Rattle.rows.specs.Limits.{workers_max};
 ghost use Rattle.rows.specs.Shape.{shape_of};
 ghost use Rattle.update_log.specs.Frames.{IsSendable};
 ghost use Rattle.update_log.specs.Streams.{stream_of};
+ghost use Rattle.wire.specs.Spelling.{HasDatagramSpelling};
 ghost use Rattle.journal.specs.Recovery.{IsJournaled};
 ghost use Rattle.journal.specs.Text.{journal_text, records_from};
 ghost use Rattle.primary.specs.Journaling.{IsFormOf, IsFlushRefusal, CountsFlushFault, AreNumbered};
@@ -57,6 +58,11 @@ impl RunningPrimary {
         ensures sendable { (worker : ℕ) → AllByRecursion IsSendable (stream_of self.now.primary.durable worker) }
         ensures some_workers { 0 < self.now.primary.workers }
         ensures few_workers { self.now.primary.workers ≤ workers_max }
+        ensures based { self.now.primary.base ≤ length self.now.primary.durable }
+        ensures pieces { length
+            (pieces_of_base (shape_of self.now.primary.schema) self.now.primary.durable self.now.primary.base) < 2 ^ 64 }
+        ensures pieces_spelled { AllByRecursion HasDatagramSpelling
+            (pieces_of_base (shape_of self.now.primary.schema) self.now.primary.durable self.now.primary.base) }
         ensures form { IsFormOf self.now.form self.now.primary.durable }
         ensures written { self.now.primary.failed ≡ false → self.now.journal.bytes
             ≡ journal_text self.now.form self.now.primary.workers (shape_of self.now.primary.schema) self.now.primary.durable }

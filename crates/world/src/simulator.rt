@@ -7,6 +7,7 @@ ghost use Rattle.journal.specs.Recovery.{IsRefusal};
 ghost use Rattle.script.specs.Events.{IsPossible};
 ghost use Rattle.world.specs.Cores.{Opening, new_opening, IsOpeningOn, cores_started};
 ghost use Rattle.world.specs.Database.{IsPromised};
+ghost use Rattle.world.specs.Renewals.{IsPromisedWithRenewals, RenewsNothing};
 ghost use Rattle.world.specs.Theorem.{AreOfOneRun, HasOneDumpOfVersion, IsFaultless, KeepsPromises};
 ghost use Rattle.rows.specs.Limits.{workers_max, replicas_max};
 
@@ -26,7 +27,9 @@ use std::thread::Threads;
 ///
 /// The promise: the outputs are those of a run of the database, as one page defines it. A report
 /// has the plain answers on the rows after exactly the commits of one list up to the version
-/// fetched for its batch, which is at least what was durable when the batch asked.
+/// fetched for its batch, which is at least what was durable when the batch asked. If an event
+/// renews a version, so is that page with renewals (`renewed`): what was fetched for a batch is given
+/// up, and what was durable when the batch asked stays.
 ///
 /// Behind it is one run of the cores with these outputs, each step of which the world allows. Of
 /// this run is proved (`AreOfOneRun`): reports and dumps are exact by the one legal list of commits
@@ -44,7 +47,9 @@ pub fn run<R: Threads + Sync>(
     requires workers { setup.now.workers ≤ workers_max }
     requires replicas { setup.now.replicas ≤ replicas_max }
     requires possible { AllByRecursion (IsPossible setup.now.workers setup.now.replicas) events.now }
-    ensures promise { IfOk result (λ outputs. IsPromised setup.now.schema [] setup.now.replicas outputs.items) }
+    ensures promise { IfOk result (λ outputs. AllByRecursion RenewsNothing events.now
+        → IsPromised setup.now.schema [] setup.now.replicas outputs.items) }
+    ensures renewed { IfOk result (λ outputs. IsPromisedWithRenewals setup.now.schema [] setup.now.replicas events.now outputs.items) }
     ensures each { IfOk result (λ outputs. length outputs.items ≡ length events.now) }
     ensures run { IfOk result (λ outputs. AreOfOneRun (new_opening setup.now) events.now outputs.items) }
     ensures dumps { IfOk result (λ outputs. HasOneDumpOfVersion outputs.items) }

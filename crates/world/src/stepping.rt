@@ -47,6 +47,7 @@ impl Cores {
             Event::Show { index } => self.show(*index),
             Event::Open { replica, plan } => self.open(*replica, plan),
             Event::Ask { replica } => self.ask(*replica),
+            Event::Renew { replica } => self.renew(*replica),
             Event::Run { replica } => self.run(rt, *replica),
             Event::Version { replica } => self.version(*replica),
             Event::Dump { replica } => self.dump(*replica),

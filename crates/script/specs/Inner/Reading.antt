@@ -13,7 +13,7 @@ use Rattle.script.specs.Inner.WordReading.{number_of, below_of, value_of, values
 use Rattle.script.specs.Inner.PlanReading.{plan_of}
 use Rattle.script.specs.declared.event.Event.{Event}
 use Rattle.script.specs.declared.event.Event.TheVariants.{Begin, Insert, Set, Delete, Get, Commit, Abort, Flush, Push, Deliver, Show, Open}
-use Rattle.script.specs.declared.event.Event.TheVariants.{Ask, Run, Stop, Start, Version, Dump, Restart, Raw, AddColumn, Base}
+use Rattle.script.specs.declared.event.Event.TheVariants.{Ask, Renew, Run, Stop, Start, Version, Dump, Restart, Raw, AddColumn, Base}
 use Rattle.script.specs.declared.event.Node.{Node}
 use Rattle.script.specs.declared.event.Node.TheVariants.{Primary, Replica}
 use Rattle.script.specs.declared.setup.Setup.{Setup}
@@ -158,6 +158,7 @@ is_setting word = list_any (λ name. bytes_eq word name) setting_names
 unfoldable pub replica_event : ℕ → List ℕ → List (List ℕ) → Result Event Reason
 replica_event replicas first words =
     if bytes_eq first (codes "ask") then or_bad_words (made Ask (replica_of replicas words)) else
+    if bytes_eq first (codes "renew") then or_bad_words (made Renew (replica_of replicas words)) else
     if bytes_eq first (codes "run") then or_bad_words (made Run (replica_of replicas words)) else
     if bytes_eq first (codes "version") then or_bad_words (made Version (replica_of replicas words)) else
     if bytes_eq first (codes "dump") then or_bad_words (made Dump (replica_of replicas words)) else

@@ -16,7 +16,7 @@ use Rattle.dispatcher.specs.declared.outcome.Got.{Got}
 use Rattle.dispatcher.specs.declared.outcome.Run.{Run}
 use Rattle.dispatcher.specs.declared.outcome.Run.TheVariants as runs
 use Rattle.dispatcher.specs.State.{Replica, Batch as ReplicaBatch}
-use Rattle.dispatcher.specs.Steps.{started_replica as replica_started, opened, asked, received, dumped, MayRun}
+use Rattle.dispatcher.specs.Steps.{started_replica as replica_started, opened, asked, renewed, received, dumped, MayRun}
 use Rattle.script.specs.declared.event.Event.{Event}
 use Rattle.script.specs.declared.event.Event.TheVariants as events
 use Rattle.script.specs.declared.event.Node.TheVariants as nodes
@@ -114,6 +114,14 @@ abbrev pub ask_by : Cores → ℕ → Option Replica → Output × Cores
 ask_by p number None = (outputs.Ignored, p)
 ask_by p number (Some replica) = asking p number replica.batch (asked replica)
 
+abbrev pub renewing : Cores → ℕ → Result (Out × Replica) AskFault → Output × Cores
+renewing p number (Ok done) = (sent_one p done.0.packet, with_sent (with_replica p number done.1) done.0.packet)
+renewing p number (Err fault) = (of_ask fault, p)
+
+abbrev pub renew_by : Cores → ℕ → Option Replica → Output × Cores
+renew_by p number None = (outputs.Ignored, p)
+renew_by p number (Some replica) = renewing p number (renewed replica)
+
 -- the boots with one more of a replica
 abbrev pub with_boot : List (List ℕ) → ℕ → ℕ → List (List ℕ)
 with_boot boots number boot = slice_set boots number (boots_at boots number ++ boot ∷ [])
@@ -134,10 +142,18 @@ restart_by p number boot (Some replica) =
 abbrev pub waiting_for : Cores → ℕ → ℕ → List ℕ → Output
 waiting_for p worker seq bytes = outputs.Waiting worker seq (record { index = length p.sent; len = length bytes })
 
--- a run that waits for a frame sends its Want
+-- and one that waits for a piece, by the bytes of its Pull
+abbrev pub waiting_for_piece : Cores → ℕ → List ℕ → Output
+waiting_for_piece p number bytes = outputs.WaitingPiece number (record { index = length p.sent; len = length bytes })
+
+-- a run that waits for a frame sends its Want, and one that waits for a piece its Pull
 abbrev pub run_output : Cores → ℕ → Run × Replica → Output × Cores
 run_output p number (runs.NoBatch, replica) = (outputs.NoBatch, with_replica p number replica)
 run_output p number (runs.WaitingHead, replica) = (outputs.WaitingHead, with_replica p number replica)
+run_output p number (runs.WaitingPiece piece pull, replica) = (
+  waiting_for_piece p piece pull.packet,
+  with_sent (with_replica p number replica) pull.packet,
+)
 run_output p number (runs.Waiting worker seq want, replica) = (
   waiting_for p worker seq want.packet,
   with_sent (with_replica p number replica) want.packet,
@@ -189,6 +205,7 @@ MayStep old (events.Deliver index (nodes.Replica number)) output new =
     MayAnswer old (come_by old number (slice_get old.sent index)) output new
 MayStep old (events.Open replica plan) output new = MayAnswer old (open_by old replica plan (slice_get old.replicas replica)) output new
 MayStep old (events.Ask replica) output new = MayAnswer old (ask_by old replica (slice_get old.replicas replica)) output new
+MayStep old (events.Renew replica) output new = MayAnswer old (renew_by old replica (slice_get old.replicas replica)) output new
 MayStep old (events.Run replica) output new = ReplicaRunsBy old replica (slice_get old.replicas replica) output new
 MayStep old (events.Version replica) output new = MayAnswer old (version_by old (slice_get old.replicas replica)) output new
 MayStep old (events.Dump replica) output new = MayAnswer old (dump_by old (slice_get old.replicas replica)) output new

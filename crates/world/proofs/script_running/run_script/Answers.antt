@@ -16,7 +16,14 @@ returns-in-Ok-flush-clause-printed g c =
       events = events;
       outputs = outputs;
       read = search rules;
-      kept = record { promise = search rules; each = search rules; run = search rules; dumps = search rules; faultless = search rules };
+      kept = record {
+        promise = search rules;
+        renewed = search rules;
+        each = search rules;
+        run = search rules;
+        dumps = search rules;
+        faultless = search rules;
+      };
       text_is = refl;
     } in
     (script, text, given, printed, search rules)
@@ -34,7 +41,14 @@ returns-in-Ok-write_run-clause-interrupted g c = λ same.
       events = events;
       outputs = outputs;
       read = search rules;
-      kept = record { promise = search rules; each = search rules; run = search rules; dumps = search rules; faultless = search rules };
+      kept = record {
+        promise = search rules;
+        renewed = search rules;
+        each = search rules;
+        run = search rules;
+        dumps = search rules;
+        faultless = search rules;
+      };
       text_is = refl;
     } in
     (script, text, given, printed, ([], (text, sym (append-nil text), search rules)))
@@ -52,7 +66,14 @@ returns-in-Err-Write-clause-interrupted g c = λ same.
       events = events;
       outputs = outputs;
       read = search rules;
-      kept = record { promise = search rules; each = search rules; run = search rules; dumps = search rules; faultless = search rules };
+      kept = record {
+        promise = search rules;
+        renewed = search rules;
+        each = search rules;
+        run = search rules;
+        dumps = search rules;
+        faultless = search rules;
+      };
       text_is = refl;
     } in
     (script, text, given, printed, search rules)

@@ -9,6 +9,9 @@ returns g c = record {
   promise =
       IfOk-weaker _ (λ outputs. KeepsPromises (new_opening c.args.setup.now) c.args.events.now outputs.items) _ (λ _ kept. kept.promise)
       c.run_on.ensures;
+  renewed =
+      IfOk-weaker _ (λ outputs. KeepsPromises (new_opening c.args.setup.now) c.args.events.now outputs.items) _ (λ _ kept. kept.renewed)
+      c.run_on.ensures;
   each =
       IfOk-weaker _ (λ outputs. KeepsPromises (new_opening c.args.setup.now) c.args.events.now outputs.items) _ (λ _ kept. kept.each)
       c.run_on.ensures;

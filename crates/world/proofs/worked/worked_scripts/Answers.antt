@@ -38,3 +38,11 @@ returns-clause-added_column c = refl
 pub returns-clause-two_workers : goal.returns-clause-two_workers
 unfolding digits
 returns-clause-two_workers c = refl
+
+pub returns-clause-image : goal.returns-clause-image
+unfolding digits
+returns-clause-image c = refl
+
+pub returns-clause-renewal : goal.returns-clause-renewal
+unfolding digits
+returns-clause-renewal c = refl

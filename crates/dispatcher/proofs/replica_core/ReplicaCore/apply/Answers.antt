@@ -1,60 +1,53 @@
--- What its tables do not have then, and came, is still kept.
-use Rattle.std.proofs.Common.{◌≡◌, List, Result, Ok, OnOk, length, refl, ap, subst, sym, ◌∙◌, rules}
-use Rattle.intake.specs.Kept.{AreKeptFrom}
-use Rattle.intake.specs.State.{Arrivals}
-use Rattle.intake.specs.Steps.{dropped}
+-- There are as many tables once commits are applied.
+use Rattle.std.proofs.Common.{◌≡◌, Bool, false, cond, [], Ok, length, sym, ap, subst, ◌∙◌}
 use Rattle.std.proofs.lemmas.List.{length-map}
 use Rattle.rows.specs.Shape.{Shape}
 use Rattle.rows.specs.Tables.{Table, Tables, shape_in}
 use Rattle.rows.specs.Commits.{apply_commits, shape_after_commits}
-use Rattle.store.specs.declared.faults.ApplyFault.{ApplyFault}
-use Rattle.dispatcher.specs.Inner.Invariant.{replica_of, AreChecked, BatchIsChecked}
-use Rattle.dispatcher.proofs.Ready.{ready-parts}
-use Rattle.dispatcher.proofs.Widened.{still-checked, batch-still-checked, still-many}
-use Rattle.dispatcher.specs.State.{Fetched}
-use Rattle.dispatcher.proofs.Lists.{pointwise-le, pointwise-length}
-use Rattle.dispatcher.proofs.Standing.{ready-goes, ready-caught}
+use Rattle.dispatcher.specs.Inner.Held.{fetched_of}
+use Rattle.dispatcher.specs.Inner.Invariant.{replica_of}
+use Rattle.dispatcher.specs.Inner.Parts.{Reaches}
+use Rattle.dispatcher.proofs.Applying.{reached-applies}
+use Rattle.dispatcher.proofs.Widened.{still-many}
 use Rattle.dispatcher.proofs.replica_core.ReplicaCore.apply.Goals as goal
 
 pub invariant_of-self : goal.invariant_of-self
 invariant_of-self g c =
-    let laws = c.known_frames_stay_kept.ensures in
     let is = c.self.invariant in
-    let replica = replica_of g.S.Store.tables c.self.inside in
-    let fetched : Fetched = record { version = c.args.version; counts = c.args.counts } in
-    let is_ready = rw (← c.self.view_is) at c.requires in
-    let goes = ready-goes replica c.self.inside.batch fetched refl is_ready is.fetched in
-    let whole = (ready-parts replica fetched is_ready).1.whole in
+    let whole = rw (← c.self.view_is) at c.requires.whole in
     let old : Tables = g.S.Store.tables c.self.inside.store in
-    let told : shape_in (g.S.Store.tables c.apply_all-applied.new.self) ≡ shape_after_commits (shape_in old) c.args.commits.now =
-    c.changes_tell_kinds.ensures.commits old (g.S.Store.tables c.apply_all-applied.new.self) c.args.commits.now
-    (subst (λ (answer : Result (Unit {0}) ApplyFault). OnOk answer
-    (apply_commits old c.args.commits.now ≡ Ok (g.S.Store.tables c.apply_all-applied.new.self)))
-    c.in-Ok.is c.apply_all-applied.ensures.ok) in
-    let left : c.drop_below.new.self ≡ dropped c.self.inside.intake c.args.counts =
-    c.drop_below.ensures ∙ ap (dropped c.self.inside.intake) c.as_slice.ensures.counts in
+    let made : Tables = g.S.Store.tables c.apply_all.new.self in
+    let told : shape_in made ≡ shape_after_commits (shape_in old) c.args.commits.now =
+    c.changes_tell_kinds.ensures.commits old made c.args.commits.now c.in-Ok.ensures.ok in
     record {
       few_workers = is.few_workers;
       number_below = is.number_below;
-      arrivals_by_worker =
-          ap (λ (all : List Arrivals). length all) left ∙ laws.drops_leave c.self.inside.intake c.args.counts ∙ is.arrivals_by_worker;
-      applied_by_worker = sym (pointwise-length c.self.inside.applied c.args.counts goes.counts_on) ∙ is.applied_by_worker;
-      others_kept =
-          subst (λ (all : List Arrivals). AreKeptFrom all c.args.counts) (sym left)
-          (laws.drops_kept c.self.inside.intake c.self.inside.applied c.args.counts
-          (λ worker. pointwise-le c.self.inside.applied c.args.counts worker goes.counts_on) is.others_kept);
-      store_whole = search rules;
-      fetched = ready-caught replica c.self.inside.batch fetched refl is_ready;
+      arrivals_by_worker = is.arrivals_by_worker;
+      applied_by_worker = is.applied_by_worker;
+      others_kept = is.others_kept;
+      store_whole = λ now. c.in-Ok.ensures.stays_whole;
+      fetched = is.fetched;
       many = λ now.
-          sym (length-map (g.S.Store.tables c.apply_all-applied.new.self) (λ (table : Table). table.kinds))
+          sym (length-map made (λ (table : Table). table.kinds))
           ∙ ap (λ (shape : Shape). length shape) told
           ∙ still-many c.changes_tell_kinds.ensures.tables (shape_in old) c.args.commits.now
           ∙ length-map old (λ (table : Table). table.kinds)
           ∙ is.many whole;
-      waiting_checked = λ now. subst (λ (shape : Shape). AreChecked shape c.self.inside.waiting.items) (sym told)
-          (still-checked c.plans_still_fit.ensures (shape_in old) c.args.commits.now c.self.inside.waiting.items
-          (is.waiting_checked whole));
-      batch_checked = λ now. subst (λ (shape : Shape). BatchIsChecked shape c.self.inside.batch) (sym told)
-          (batch-still-checked c.plans_still_fit.ensures (shape_in old) c.args.commits.now c.self.inside.batch
-          (is.batch_checked whole));
+      begun = ap (λ (shape : Shape). length shape) c.apply_all.ensures.base ∙ is.begun;
     }
+
+pub returns-in-Ok : goal.returns-in-Ok
+returns-in-Ok g c =
+    let a = c.self.inside in
+    let replica = replica_of g.S.Store.tables g.S.Store.base_shape a in
+    let fetched = fetched_of c.args.fetched.now in
+    let whole : a.broken ≡ false = rw (← c.self.view_is) at c.requires.whole in
+    let old : Tables = g.S.Store.tables a.store in
+    let made : Tables = g.S.Store.tables c.apply_all.new.self in
+    let seen : Tables = cond a.broken [] made in
+    let ok : apply_commits replica.tables c.args.commits.now ≡ Ok seen =
+    ap (λ (broken : Bool). apply_commits (cond broken [] old) c.args.commits.now) whole ∙ c.in-Ok.ensures.ok
+    ∙ sym (ap (λ (broken : Bool). Ok (cond broken [] made)) whole) in
+    rw (← c.self.view_is) (reached-applies replica fetched replica.tables seen c.args.commits.now c.reach.result c.reach.new.self ok
+    (subst (λ (shape : Shape). Reaches (record replica { shape = shape; tables = seen }) fetched c.reach.result c.reach.new.self)
+    c.apply_all.ensures.base c.reach.ensures))

@@ -1,7 +1,7 @@
 -- Nothing has come, and tables without rows have the columns of the schema.
 use Rattle.std.proofs.Common.{◌≡◌, ℕ, List, [], length, ap, sym, subst, ◌∙◌, rules}
 use Rattle.std.proofs.lemmas.List.{length-replicate, length-map}
-use Rattle.rows.specs.Shape.{shape_of}
+use Rattle.rows.specs.Shape.{Shape, shape_of}
 use Rattle.rows.specs.declared.kind.Kind.{Kind}
 use Rattle.rows.specs.Tables.{Tables}
 use Rattle.intake.specs.Kept.{AreKeptFrom}
@@ -28,6 +28,8 @@ invariant_of-result g c =
           ∙ length-map (shape_of schema) (λ (kinds : List Kind). record { kinds = kinds; rows = [] })
           ∙ length-map schema (λ (table : List ℕ × List Kind). table.1)
           ∙ sym (ap (λ (schema : List (List ℕ × List Kind)). length schema) cloned);
-      waiting_checked = λ whole. search rules;
-      batch_checked = λ whole. tt;
+      begun =
+          ap (λ (shape : Shape). length shape) c.requires.base
+          ∙ length-map schema (λ (table : List ℕ × List Kind). table.1)
+          ∙ sym (ap (λ (schema : List (List ℕ × List Kind)). length schema) cloned);
     }
