@@ -1,13 +1,13 @@
 -- Frames that hold lists of commits: the first commit, and what is left behind it.
 use Rattle.std.proofs.Common.{◌≡◌, ℕ, ◌+◌, ◌<◌, ◌==◌, Bool, true, false, cond, List, [], ◌∷◌, ◌++◌, length, refl, sym, ap, subst}
-use Rattle.std.proofs.Common.{◌∙◌, inl, inr, arith}
+use Rattle.std.proofs.Common.{◌∙◌, inl, inr, append-nil, arith}
 use Rattle.std.specs.List.{flat_map, AllByRecursion}
 use Rattle.std.proofs.lemmas.Bool.{eq-eqb, ne_eqb, cases_eq}
 use Rattle.rows.specs.declared.commit.Commit.{Commit}
 use Rattle.rows.specs.declared.entry.Entry.{Entry}
 use Rattle.update_log.specs.declared.frame.Frame.{Frame}
-use Rattle.ordering.specs.Merging.{HoldCommit, HoldIfOwn, HoldCommits, AreHeld, IsMerge}
-use Rattle.ordering.specs.Inner.Progress.{is_first_numbered, HoldNone, IsCommitTaken, IsStuck}
+use Rattle.ordering.specs.Merging.{HoldCommit, HoldIfOwn, HoldCommits, HoldFirst, AreHeld, IsMerge}
+use Rattle.ordering.specs.Inner.Progress.{is_first_numbered, HoldNone, IsStuck}
 use Rattle.ordering.proofs.Beginning.{some-own}
 use Rattle.ordering.proofs.Marking.{same-beginning}
 
@@ -19,11 +19,11 @@ pub record IsFirst (number : ℕ) (worker : ℕ) (entries : List Entry) (more : 
   pub holds : HoldCommit number entries own
   pub held : HoldCommits worker number more rest
 
-held-own : (number : ℕ) (entries : List Entry) (own : List Frame) (ours : Bool) → ours ≡ true → HoldIfOwn ours number entries own
+pub held-own : (number : ℕ) (entries : List Entry) (own : List Frame) (ours : Bool) → ours ≡ true → HoldIfOwn ours number entries own
     → HoldCommit number entries own
 held-own number entries own ours e holds = subst (λ (b : Bool). HoldIfOwn b number entries own) e holds
 
-held-none : (number : ℕ) (entries : List Entry) (own : List Frame) (ours : Bool) → ours ≡ false → HoldIfOwn ours number entries own
+pub held-none : (number : ℕ) (entries : List Entry) (own : List Frame) (ours : Bool) → ours ≡ false → HoldIfOwn ours number entries own
     → own ≡ []
 held-none number entries own ours e holds = subst (λ (b : Bool). HoldIfOwn b number entries own) e holds
 
@@ -116,6 +116,11 @@ stuck-here before worker left begins none other more held =
 
 -- ---- where there is one
 
+-- from the frames that are left, one more commit was taken: it is the next of every list of commits that they hold
+pub record IsCommitTaken (before : ℕ) (left : ℕ → List Frame) (commit : Commit) (after : ℕ → List Frame) : Type 0 where
+  pub onto : (more : List Commit) → AreHeld (before + 1) more after → AreHeld before (commit ∷ more) left
+  pub only : (other : Commit) (more : List Commit) → AreHeld before (other ∷ more) left → (other ≡ commit) × AreHeld (before + 1) more after
+
 -- what takes the worker's own frames away, and leaves those of all others
 pub record IsTaken (left : ℕ → List Frame) (worker : ℕ) (own : List Frame) (after : ℕ → List Frame) : Type 0 where
   pub whole : left worker ≡ own ++ after worker
@@ -187,6 +192,34 @@ step before left commit own after holds is_taken = record {
   onto = step-onto before left commit own after holds is_taken;
   only = step-only before left commit own after holds is_taken;
 }
+
+-- the frames hold it first
+pub first-held : (before : ℕ) (left : ℕ → List Frame) (commit : Commit) (own : List Frame) (after : ℕ → List Frame)
+    → HoldCommit (before + 1) commit.entries own → IsTaken left commit.worker own after → HoldFirst before (commit ∷ []) left after
+first-held before left commit own after holds is_taken worker = elim (cases_eq commit.worker worker) [
+  | inl ours ↦ (
+    own,
+    subst (λ (w : ℕ). left w ≡ own ++ after w) ours is_taken.whole,
+    (
+      own,
+      [],
+      sym (append-nil own),
+      subst (λ (b : Bool). HoldIfOwn b (before + 1) commit.entries own) (sym (eq-eqb commit.worker worker ours)) holds,
+      refl,
+    ),
+  )
+  | inr other ↦ (
+    [],
+    sym (is_taken.others worker (λ e. other (sym e))),
+    (
+      [],
+      [],
+      refl,
+      subst (λ (b : Bool). HoldIfOwn b (before + 1) commit.entries []) (sym (ne_eqb commit.worker worker other)) refl,
+      refl,
+    ),
+  )
+]
 
 -- frames hold one list of so many commits
 pub held-unique : (before : ℕ) (frames : ℕ → List Frame) (commits others : List Commit) → length commits ≡ length others

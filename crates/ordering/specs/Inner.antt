@@ -1,2 +1,2 @@
--- Only for proofs: how far a merge has come. No public clause names these.
+-- Only for proofs: how far the frames of a commit have come, and where a merge stops. No public clause names these.
 pub mod Progress

@@ -40,6 +40,11 @@ HoldCommits worker before (commit ∷ commits) frames =
 abbrev pub AreHeld : ℕ → List Commit → (ℕ → List Frame) → Type 0
 AreHeld before commits frames = (worker : ℕ) → HoldCommits worker before commits (frames worker)
 
+-- each worker's frames are those of its own commits among these, which stand after `before` others, and then the rest
+abbrev pub HoldFirst : ℕ → List Commit → (ℕ → List Frame) → (ℕ → List Frame) → Type 0
+HoldFirst before commits frames rest =
+    (worker : ℕ) → (own : List Frame) × (frames worker ≡ own ++ rest worker) × HoldCommits worker before commits own
+
 -- these are the commits `from` + 1 to `to` that the workers' frames hold, and the frames hold nothing else
 pub record IsMerge (frames : ℕ → List Frame) (from to : ℕ) (commits : List Commit) : Type 0 where
   pub counted : from + length commits ≡ to

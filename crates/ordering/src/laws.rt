@@ -1,6 +1,7 @@
 //! Laws of merging.
 
 ghost use Rattle.ordering.specs.Laws.{MergeIsUnique, CutFramesMerge, KeptFramesMerge};
+ghost use Rattle.ordering.specs.Laws.{PartsJoin, PartBeginsMerge, MergeBeginsWithPart};
 
 use intake::arrivals_stay_of_streams;
 
@@ -15,3 +16,13 @@ pub fn one_merge()
 {
     arrivals_stay_of_streams();
 }
+
+/// The commits that frames hold first, part by part, are together those that they hold first. With a
+/// merge of the rest behind them they are a merge of all, and each merge of all is such a one. So the
+/// merge of frames can be taken part by part, and is refused in a later part only if there is none.
+/// It does nothing: its contract is the law.
+pub fn parts_make_the_merge()
+    ensures join { PartsJoin }
+    ensures begin { PartBeginsMerge }
+    ensures only { MergeBeginsWithPart }
+{}

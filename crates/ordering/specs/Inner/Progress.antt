@@ -1,5 +1,5 @@
--- How far a merge has come, and where it stops.
-use Rattle.std.specs.Prelude.{◌≡◌, ℕ, ◌+◌, ◌≤◌, List, [], ◌∷◌, ◌++◌, length, Bool, false, ◌==◌}
+-- How far the frames of a commit have come, and where a merge stops.
+use Rattle.std.specs.Prelude.{◌≡◌, ℕ, ◌≤◌, List, [], ◌∷◌, ◌++◌, length, Bool, false, ◌==◌}
 use Rattle.std.specs.List.{flat_map, AllByRecursion}
 use Rattle.rows.specs.declared.commit.Commit.{Commit}
 use Rattle.rows.specs.declared.entry.Entry.{Entry}
@@ -23,18 +23,6 @@ pub record IsCommitBegun (number : ℕ) (entries : List Entry) (frames : List Fr
 abbrev pub HoldNone : ℕ → List Frame → Type 0
 HoldNone number frames = (entries : List Entry) (own rest : List Frame) → frames ≡ own ++ rest → HoldCommit number entries own → ⊥
 
--- from the frames that are left, one more commit was taken: it is the next of every list of commits that they hold
-pub record IsCommitTaken (before : ℕ) (left : ℕ → List Frame) (commit : Commit) (after : ℕ → List Frame) : Type 0 where
-  pub onto : (more : List Commit) → AreHeld (before + 1) more after → AreHeld before (commit ∷ more) left
-  pub only : (other : Commit) (more : List Commit) → AreHeld before (other ∷ more) left → (other ≡ commit) × AreHeld (before + 1) more after
-
 -- the frames that are left hold no list with one more commit
 abbrev pub IsStuck : ℕ → (ℕ → List Frame) → Type 0
 IsStuck before left = (other : Commit) (more : List Commit) → AreHeld before (other ∷ more) left → ⊥
-
--- so many commits have been taken: with what the frames that are left hold, they are what all frames hold
-pub record WasTaken (frames : ℕ → List Frame) (from before : ℕ) (commits : List Commit) (left : ℕ → List Frame) : Type 0 where
-  pub counted : from + length commits ≡ before
-  pub onto : (more : List Commit) → AreHeld before more left → AreHeld from (commits ++ more) frames
-  pub only : (all : List Commit) → AreHeld from all frames → length commits ≤ length all
-      → (more : List Commit) × (all ≡ commits ++ more) × AreHeld before more left

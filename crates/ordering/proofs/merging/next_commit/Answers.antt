@@ -3,7 +3,7 @@ use Rattle.std.proofs.Common.{◌+◌, slice_set}
 use Rattle.std.specs.Prelude.{slice_index}
 use Rattle.intake.specs.Kept.{frames_between}
 use Rattle.ordering.specs.Merging.{frames_in}
-use Rattle.ordering.proofs.Holding.{step, stuck-here, stuck-none}
+use Rattle.ordering.proofs.Holding.{first-held, stuck-here, stuck-none}
 use Rattle.ordering.proofs.Taking.{none-begins, taken-away}
 use Rattle.ordering.proofs.merging.next_commit.Goals as goal
 
@@ -23,7 +23,7 @@ returns-in-Ok-clause-step c =
     let at = c.args.at.now in
     let worker = c.in-Some.worker in
     let next = c.in-Ok.commit.next in
-    step c.args.before (frames_in all at c.args.high.now) (record { worker = worker; entries = c.in-Ok.commit.entries })
+    first-held c.args.before (frames_in all at c.args.high.now) (record { worker = worker; entries = c.in-Ok.commit.entries })
     (frames_between all worker (slice_index at worker) next) (frames_in all (slice_set at worker next) c.args.high.now)
     c.in-Ok.ensures.held
     (taken-away all at c.args.high.now worker next c.in-Some.ensures.0 c.in-Ok.ensures.next.0 c.in-Ok.ensures.next.1)
