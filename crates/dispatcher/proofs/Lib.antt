@@ -8,6 +8,7 @@ pub mod Standing
 pub mod Gaining
 pub mod Collecting
 pub mod Parting
+pub mod Merging
 pub mod Imaging
 pub mod Coming
 pub mod Applying

@@ -1,6 +1,6 @@
 -- The pieces of an image, applied part by part.
 use Rattle.std.proofs.Common.{◌≡◌, ℕ, ◌+◌, ◌<◌, ◌≤◌, ◌==◌, ◌||◌, Bool, true, false, List, [], ◌∷◌, ◌++◌, length, Some}
-use Rattle.std.proofs.Common.{Result, Ok, Err, ◌⊎◌, inl, inr, nat_lt, refl, sym, ap, subst, ◌∙◌, arith}
+use Rattle.std.proofs.Common.{Result, Ok, Err, inl, inr, nat_lt, refl, sym, ap, subst, ◌∙◌, arith}
 use Rattle.std.specs.Prelude.{IsErr}
 use Rattle.std.proofs.lemmas.Bool.{false≢true}
 use Rattle.std.proofs.lemmas.Bool.Decides.{nat_tests}
@@ -36,7 +36,7 @@ applied-begins all pieces tables part none there =
 
 -- ---- one piece more
 
-apply-more : (begun before : Tables) (done more : List Commit) → apply_commits begun done ≡ Ok before
+pub apply-more : (begun before : Tables) (done more : List Commit) → apply_commits begun done ≡ Ok before
     → apply_commits begun (done ++ more) ≡ apply_commits before more
 apply-more begun before done more made =
     apply_commits-append begun done more ∙ ap (and_then (λ after. apply_commits after more)) made
@@ -44,7 +44,7 @@ apply-more begun before done more made =
 is-last : (first pieces : ℕ) → first < pieces → pieces ≤ first + 1 → ((first + 1) == pieces) ≡ true
 is-last first pieces below past = grind (arith, nat_tests)
 
-refused-first : (next : Tables → Result Tables Refusal) (first : Result Tables Refusal) → IsErr first → IsErr (and_then next first)
+pub refused-first : (next : Tables → Result Tables Refusal) (first : Result Tables Refusal) → IsErr first → IsErr (and_then next first)
 refused-first next (Ok after) h = absurd (cc)
 refused-first next (Err refusal) h = refl
 

@@ -1,4 +1,8 @@
+ghost use Rattle.std.specs.Prelude.{◌≡◌};
+ghost use Rattle.dispatcher.specs.Inner.Parts.{fault_of};
+
 use queries::PlanFault;
+use store::ApplyFault;
 use thiserror::Error;
 
 /// Why a query is not taken: the first that applies, in the order `Broken`, `BatchFull`, `BadPlan`,
@@ -54,4 +58,15 @@ pub enum CatchUpFault {
     Memory,
     /// The store did not make all changes; the replica is broken.
     Broken,
+}
+
+/// Why a replica did not catch up, where changes were not made.
+pub fn catch_up_fault(fault: ApplyFault) -> CatchUpFault
+    ensures { result ≡ fault_of fault }
+{
+    match fault {
+        ApplyFault::Inconsistent => CatchUpFault::Inconsistent,
+        ApplyFault::Memory => CatchUpFault::Broken,
+        ApplyFault::Broken => CatchUpFault::Broken,
+    }
 }

@@ -16,8 +16,8 @@
 //! replica reports on rows of that list, and its dump is the text of the tables after exactly the
 //! commits up to its version.
 //!
-//! It uses `intake` for the frames and pieces that arrive, `ordering` for the commits that they hold, `plans`
-//! for the answers of queries, `rows` for the text of values, `wire`, and `store`. If a call fails
+//! It uses `intake` for the frames and pieces that arrive, `ordering` for the commits that they hold, part
+//! by part, `plans` for the answers of queries, `rows` for the text of values, `wire`, and `store`. If a call fails
 //! for lack of memory, its value is unchanged unless the call says otherwise.
 #![tactic(auto)]
 
@@ -26,6 +26,7 @@ mod counting;
 mod faults;
 mod gaps;
 mod laws;
+mod merge;
 mod outcome;
 mod pieces;
 mod replica_core;

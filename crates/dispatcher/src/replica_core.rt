@@ -17,27 +17,29 @@ ghost use Rattle.dispatcher.specs.Gaps.{gaps_of, piece_gaps_of, image_base_of};
 ghost use Rattle.dispatcher.specs.Steps.{started_replica, opened, asked, renewed, received, frame_comes, piece_comes, goes_on};
 ghost use Rattle.dispatcher.specs.Steps.{own_head_comes, MayTake, readiness_of, at_fetched, BatchFits, MayRun, dumped};
 ghost use Rattle.dispatcher.specs.Inner.Held.{fetched_of};
-ghost use Rattle.dispatcher.specs.Inner.Parts.{CatchesUp, Applies, Reaches, AppliesImage, fault_of, MayAnswerBatch};
+ghost use Rattle.dispatcher.specs.Inner.Merging.{CanGoOn, merging_of};
+ghost use Rattle.dispatcher.specs.Inner.Parts.{CatchesUp, Applies, Reaches, AppliesImage, MayAnswerBatch};
 
 use crate::batch::{Batch, Fetched, bases_for, wants_piece};
 use crate::counting::copy_of;
-use crate::faults::{AskFault, CatchUpFault, DumpFault, OpenFault};
+use crate::faults::{AskFault, CatchUpFault, DumpFault, OpenFault, catch_up_fault};
 use crate::gaps::{Gap, push_gaps};
+use crate::merge::{Merge, apply_merge, begun_merge};
 use crate::outcome::{Got, Run, got_of};
 use crate::pieces::Pieces;
 use crate::sending::{ask_out, pull_out, want_out};
 use crate::table_text::table_text;
 use intake::{Intake, Taken, frames_are_gained, known_frames_stay_kept};
-use ordering::{OrderFault, one_merge, ordered};
+use ordering::{OrderFault, one_merge, parts_make_the_merge};
 use plans::answer_batch;
 use queries::{Plan, report};
 use rows::laws::changes_tell_kinds;
 use rows::limits::WAITING_QUERIES_MAX;
-use rows::{ByteList, Commit, Schema};
+use rows::{ByteList, Schema};
 use std::alloc::{AllocError, Global};
 use std::marker::{Model, Sync};
 use std::thread::Threads;
-use store::{ApplyFault, ApplyStore};
+use store::ApplyStore;
 use update_log::Frame;
 use wire::{Counts, Datagram, Head, LentEntries, Out, read};
 
@@ -566,7 +568,8 @@ impl<S: ApplyStore + Sync> ReplicaCore<S> {
     }
 
     /// Catches up with what was fetched for the batch, for which nothing is missing, and is then at that
-    /// version. All is merged before the first change: if that runs out of memory, nothing has changed.
+    /// version. The first part of the commits is merged before the first change: if that runs out of memory,
+    /// nothing has changed.
     fn catch_up<R: Threads + Sync>(&mut self, rt: &R, fetched: &Fetched) -> Result<(), CatchUpFault>
         requires { fetched_in (readiness_of self.old) ≡ Some (fetched_of fetched.now) }
         ensures { CatchesUp self.old (fetched_of fetched.now) result self.new }
@@ -589,16 +592,15 @@ impl<S: ApplyStore + Sync> ReplicaCore<S> {
         ensures { CatchesUp self.old (fetched_of fetched.now) result self.new }
     {
         known_frames_stay_kept();
-        one_merge();
-        match ordered(
+        parts_make_the_merge();
+        match begun_merge(
             self.alloc,
             &self.intake,
             self.applied.as_slice(),
-            fetched.counts.as_slice(),
             self.version,
-            fetched.version,
+            fetched,
         ) {
-            Ok(commits) => self.apply(rt, &commits, fetched),
+            Ok(mut merge) => self.apply(rt, &mut merge, fetched),
             Err(OrderFault::Inconsistent) => {
                 self.broken = true;
                 Err(CatchUpFault::Inconsistent)
@@ -618,20 +620,19 @@ impl<S: ApplyStore + Sync> ReplicaCore<S> {
         ensures { CatchesUp self.old (fetched_of fetched.now) result self.new }
     {
         known_frames_stay_kept();
-        one_merge();
+        parts_make_the_merge();
         if !self.pieces.are_marked(fetched.pieces) {
             self.broken = true;
             return Err(CatchUpFault::Inconsistent);
         }
-        match ordered(
+        match begun_merge(
             self.alloc,
             &self.intake,
             fetched.lows.as_slice(),
-            fetched.counts.as_slice(),
             fetched.base,
-            fetched.version,
+            fetched,
         ) {
-            Ok(commits) => self.apply_image(rt, &commits, fetched),
+            Ok(mut merge) => self.apply_image(rt, &mut merge, fetched),
             Err(OrderFault::Inconsistent) => {
                 self.broken = true;
                 Err(CatchUpFault::Inconsistent)
@@ -641,16 +642,17 @@ impl<S: ApplyStore + Sync> ReplicaCore<S> {
     }
 
     /// Makes the tables anew of the pieces, part by part, and applies the commits behind them. If there is no
-    /// room for a part, nothing has changed.
+    /// room for a part of the pieces, nothing has changed.
     fn apply_image<R: Threads + Sync>(
         &mut self,
         rt: &R,
-        commits: &[Commit],
+        merge: &mut Merge,
         fetched: &Fetched,
     ) -> Result<(), CatchUpFault>
         requires ready { fetched_in (readiness_of self.old) ≡ Some (fetched_of fetched.now) }
         requires by_image { by_image self.old.version (fetched_of fetched.now) ≡ true }
-        ensures { AppliesImage self.old (fetched_of fetched.now) commits.now result self.new }
+        requires goes_on { CanGoOn self.old.arrivals fetched.now.counts fetched.now.version merge.old }
+        ensures { AppliesImage self.old (fetched_of fetched.now) (merging_of self.old.arrivals fetched.now.counts merge.old) result self.new }
     {
         changes_tell_kinds();
         let Ok(mut part) = Vec::with_capacity(self.alloc, PART_PIECES) else {
@@ -661,7 +663,7 @@ impl<S: ApplyStore + Sync> ReplicaCore<S> {
             .pieces
             .apply_to(rt, fetched.pieces, &mut part, &mut self.store)
         {
-            Ok(()) => self.apply(rt, commits, fetched),
+            Ok(()) => self.apply(rt, merge, fetched),
             Err(fault) => {
                 self.broken = true;
                 Err(catch_up_fault(fault))
@@ -669,24 +671,35 @@ impl<S: ApplyStore + Sync> ReplicaCore<S> {
         }
     }
 
-    /// Applies the commits, and is then at the version that was fetched, with its frames applied and no
-    /// longer kept. If that fails, or a query of the batch does not fit the tables then, it is broken.
+    /// Applies the commits that a merge has taken and those behind them, part by part, and is then at the
+    /// version that was fetched, with its frames applied and no longer kept. If that fails, or a query of the
+    /// batch does not fit the tables then, it is broken.
     fn apply<R: Threads + Sync>(
         &mut self,
         rt: &R,
-        commits: &[Commit],
+        merge: &mut Merge,
         fetched: &Fetched,
     ) -> Result<(), CatchUpFault>
         requires whole { self.old.broken ≡ false }
         requires fetched { fetched_for self.old.batch ≡ Some (fetched_of fetched.now) }
-        ensures { Applies self.old (fetched_of fetched.now) self.old.tables commits.now result self.new }
+        requires goes_on { CanGoOn self.old.arrivals fetched.now.counts fetched.now.version merge.old }
+        ensures { Applies self.old (fetched_of fetched.now) self.old.tables (merging_of self.old.arrivals fetched.now.counts merge.old)
+            result self.new }
     {
         changes_tell_kinds();
-        match self.store.apply_all(rt, commits) {
+        one_merge();
+        match apply_merge(
+            self.alloc,
+            rt,
+            &self.intake,
+            fetched,
+            merge,
+            &mut self.store,
+        ) {
             Ok(()) => self.reach(fetched),
             Err(fault) => {
                 self.broken = true;
-                Err(catch_up_fault(fault))
+                Err(fault)
             }
         }
     }
@@ -783,15 +796,4 @@ fn all_fit<S: ApplyStore>(store: &S, plans: &[Plan]) -> bool
         }
     }
     true
-}
-
-/// Why a replica did not catch up, where changes were not made.
-fn catch_up_fault(fault: ApplyFault) -> CatchUpFault
-    ensures { result ≡ fault_of fault }
-{
-    match fault {
-        ApplyFault::Inconsistent => CatchUpFault::Inconsistent,
-        ApplyFault::Memory => CatchUpFault::Broken,
-        ApplyFault::Broken => CatchUpFault::Broken,
-    }
 }

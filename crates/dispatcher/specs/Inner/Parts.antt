@@ -1,15 +1,15 @@
 -- Only for proofs: what the parts of a replica's calls answer and leave.
-use Rattle.std.specs.Prelude.{◌≡◌, ℕ, ◌<◌, List, [], length, Bool, true, false, Option, None, Some, Result, Ok, Err, IsOkAnd, ◌⊎◌}
+use Rattle.std.specs.Prelude.{◌≡◌, ℕ, ◌+◌, ◌<◌, List, [], length, Bool, false, Option, None, Some, Result, Ok, Err, IsOkAnd, ◌⊎◌}
 use Rattle.rows.specs.declared.commit.Commit.{Commit}
 use Rattle.rows.specs.Commits.{apply_commits}
 use Rattle.rows.specs.Tables.{Tables, Refusal}
-use Rattle.store.specs.Faults.{have_entries}
 use Rattle.store.specs.declared.faults.ApplyFault.{ApplyFault}
 use Rattle.store.specs.declared.faults.ApplyFault.TheVariants as applying
 use Rattle.dispatcher.specs.declared.faults.CatchUpFault.{CatchUpFault}
 use Rattle.dispatcher.specs.declared.faults.CatchUpFault.TheVariants.{Inconsistent, Memory, Broken}
 use Rattle.dispatcher.specs.declared.outcome.Run.{Run}
 use Rattle.dispatcher.specs.declared.outcome.Run.TheVariants as runs
+use Rattle.dispatcher.specs.Inner.Merging.{Merging, GoesOnFrom}
 use Rattle.dispatcher.specs.State.{Replica, Batch, Fetched}
 use Rattle.dispatcher.specs.Report.{report_of}
 use Rattle.dispatcher.specs.Steps.{broken_of, first_tables, to_apply, at_fetched, BatchFits, CaughtUp, CannotCatchUp}
@@ -30,12 +30,17 @@ AreMade old fetched made new = IsOkAnd made (λ tables. (new ≡ at_fetched old 
 abbrev pub AreNotMade : Replica → Result Tables Refusal → Type 0
 AreNotMade old made = IsOkAnd made (λ tables. BatchFits tables old.batch) → ⊥
 
--- what applying commits to these tables answers and leaves; it merges none, so that it is not out of memory before the first change
-abbrev pub Applies : Replica → Fetched → Tables → List Commit → Result (Unit {0}) CatchUpFault → Replica → Type 0
-Applies old fetched tables commits (Ok done) new = AreMade old fetched (apply_commits tables commits) new
-Applies old fetched tables commits (Err Inconsistent) new = AreNotMade old (apply_commits tables commits) × (new ≡ broken_of old)
-Applies old fetched tables commits (Err Memory) new = ⊥
-Applies old fetched tables commits (Err Broken) new = (new ≡ broken_of old) × (have_entries commits ≡ true)
+-- what applying to these tables what a merge has taken, and the commits behind it, answers and leaves; it is not out of memory before
+-- the first change
+abbrev pub Applies : Replica → Fetched → Tables → Merging → Result (Unit {0}) CatchUpFault → Replica → Type 0
+Applies old fetched tables merging (Ok done) new =
+    (commits : List Commit) × GoesOnFrom merging fetched.version commits × AreMade old fetched (apply_commits tables commits) new
+Applies old fetched tables merging (Err Inconsistent) new =
+    ((commits : List Commit) → GoesOnFrom merging fetched.version commits → AreNotMade old (apply_commits tables commits))
+    × (new ≡ broken_of old)
+Applies old fetched tables merging (Err Memory) new = ⊥
+Applies old fetched tables merging (Err Broken) new =
+    (new ≡ broken_of old) × (merging.version < fetched.version + length merging.part)
 
 -- what being at the fetched version with the tables as they are comes to: where a query of the batch does not fit them, the replica is
 -- broken
@@ -46,13 +51,15 @@ Reaches old fetched (Err other) new = ⊥
 
 -- what making the tables anew of an image and applying commits behind it answers and leaves: where there is no room for a part of the
 -- pieces, nothing has changed
-abbrev pub AppliesImage : Replica → Fetched → List Commit → Result (Unit {0}) CatchUpFault → Replica → Type 0
-AppliesImage old fetched commits (Ok done) new =
-    AreMade old fetched (apply_commits (first_tables old fetched) (to_apply old fetched commits)) new
-AppliesImage old fetched commits (Err Inconsistent) new =
-    AreNotMade old (apply_commits (first_tables old fetched) (to_apply old fetched commits)) × (new ≡ broken_of old)
-AppliesImage old fetched commits (Err Memory) new = new ≡ old
-AppliesImage old fetched commits (Err Broken) new = new ≡ broken_of old
+abbrev pub AppliesImage : Replica → Fetched → Merging → Result (Unit {0}) CatchUpFault → Replica → Type 0
+AppliesImage old fetched merging (Ok done) new =
+    (commits : List Commit) × GoesOnFrom merging fetched.version commits
+    × AreMade old fetched (apply_commits (first_tables old fetched) (to_apply old fetched commits)) new
+AppliesImage old fetched merging (Err Inconsistent) new =
+    ((commits : List Commit) → GoesOnFrom merging fetched.version commits
+    → AreNotMade old (apply_commits (first_tables old fetched) (to_apply old fetched commits))) × (new ≡ broken_of old)
+AppliesImage old fetched merging (Err Memory) new = new ≡ old
+AppliesImage old fetched merging (Err Broken) new = new ≡ broken_of old
 
 -- what applying a part of some commits leaves: it is applied, and the list is empty; or it is not, since the list has room for more, and
 -- the part is not the last

@@ -10,6 +10,7 @@ use Rattle.intake.specs.Kept.{frames_between}
 use Rattle.dispatcher.specs.Images.{image_commits}
 use Rattle.dispatcher.specs.Inner.Held.{fetched_of}
 use Rattle.dispatcher.specs.Inner.Invariant.{replica_of}
+use Rattle.dispatcher.specs.Inner.Merging.{merging_of}
 use Rattle.dispatcher.specs.Inner.Parts.{Applies, AppliesImage}
 use Rattle.dispatcher.specs.Protocol.{by_image}
 use Rattle.dispatcher.specs.declared.faults.CatchUpFault.{CatchUpFault}
@@ -84,8 +85,9 @@ returns-in-Ok-apply_to g c =
     let base : left.base ≡ replica.pieces.base =
     seen-base a.broken c.apply_to.new.self ∙ ap (λ (pieces : Pieces). pieces.base) c.apply_to.ensures.left
     ∙ sym (seen-base a.broken a.pieces) in
-    rw (← c.self.view_is) (image-applies replica fetched c.args.commits.now image seen left c.apply.result c.apply.new.self ok base
-    (subst (λ (shape : Shape). Applies (record replica { shape = shape; tables = seen; pieces = left }) fetched seen c.args.commits.now
+    let merging = merging_of a.intake fetched.counts c.args.merge.now in
+    rw (← c.self.view_is) (image-applies replica fetched merging image seen left c.apply.result c.apply.new.self ok base
+    (subst (λ (shape : Shape). Applies (record replica { shape = shape; tables = seen; pieces = left }) fetched seen merging
     c.apply.result c.apply.new.self)
     (c.apply_to.ensures.base ∙ c.clear.ensures.base) c.apply.ensures))
 
@@ -126,7 +128,9 @@ returns g c =
       broken = true;
     }) shape
     ∙ ap (λ (base : ℕ). record replica { tables = []; pieces = no_pieces base; broken = true }) base in
-    subst (λ (r : Replica). AppliesImage r fetched c.args.commits.now (Err c.catch_up_fault.result) new) c.self.view_is
-    (subst (λ (fault : CatchUpFault). AppliesImage replica fetched c.args.commits.now (Err fault) new) (sym c.catch_up_fault.ensures)
-    (image-fails replica fetched c.args.commits.now image (g.S.Store.is_whole c.clear.new.self) (have_entries kept)
+    let merging = merging_of a.intake fetched.counts c.args.merge.now in
+    subst (λ (r : Replica). AppliesImage r fetched (merging_of r.arrivals fetched.counts c.args.merge.now) (Err c.catch_up_fault.result) new)
+    c.self.view_is
+    (subst (λ (fault : CatchUpFault). AppliesImage replica fetched merging (Err fault) new) (sym c.catch_up_fault.ensures)
+    (image-fails replica fetched merging image (g.S.Store.is_whole c.clear.new.self) (have_entries kept)
     c.in-Err.fault new broken fails))
