@@ -129,17 +129,18 @@ module _ (r : Replica) (fetched : Fetched) (merging : Merging) (image : by_image
       applies.0 ∙ ap (λ (base : ℕ). record r { tables = []; pieces = no_pieces base; broken = true }) base
 
   -- or it could not be
-  pub image-fails : (whole some : Bool) (fault : ApplyFault) (new : Replica) → new ≡ broken_of r
-      → FailsAs whole some (apply_commits (opening r.shape) (image_commits (frames_between r.pieces.arrivals 0 0 fetched.pieces))) fault
+  pub image-fails : (fault : ApplyFault) (new : Replica) → new ≡ broken_of r
+      → (fault ≡ applying.Inconsistent
+      → IsErr (apply_commits (opening r.shape) (image_commits (frames_between r.pieces.arrivals 0 0 fetched.pieces))))
       → AppliesImage r fetched merging (Err (fault_of fault)) new
-  image-fails whole some applying.Inconsistent new broken fails = (
+  image-fails applying.Inconsistent new broken fails = (
     λ commits goes.
         refused-not-made r (apply_commits (first_tables r fetched) (to_apply r fetched commits))
-        (by-image-refused r fetched commits image fails.1),
+        (by-image-refused r fetched commits image (fails refl)),
     broken,
   )
-  image-fails whole some applying.Memory new broken fails = broken
-  image-fails whole some applying.Broken new broken fails = broken
+  image-fails applying.Memory new broken fails = broken
+  image-fails applying.Broken new broken fails = broken
 
 -- ---- what catching up comes to
 

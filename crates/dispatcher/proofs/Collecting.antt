@@ -13,8 +13,7 @@ use Rattle.intake.specs.Laws.{NoneLackingIsComplete, ReleasesLeaveOthers}
 use Rattle.intake.specs.State.{Arrivals, arrivals_of, frame_in, frame_of}
 use Rattle.intake.specs.Steps.{lacking, released}
 use Rattle.ordering.specs.Merging.{AreMarked}
-use Rattle.dispatcher.specs.Images.{image_commits}
-use Rattle.dispatcher.specs.Inner.Held.{AreKeptPieces}
+use Rattle.dispatcher.specs.Inner.Held.{AreKeptPieces, waiting_entries, commits_in}
 use Rattle.dispatcher.proofs.Standing.{all-kept}
 
 -- where none is missing, each is kept
@@ -106,7 +105,7 @@ marked-ends all first pieces past so =
 pub record AreMovedTo (whole all : List Arrivals) (pieces first : ℕ) (commits : List Commit) : Type 0 where
   pub workers : length all ≡ length whole
   pub many : length commits ≡ first
-  pub moved : commits ++ image_commits (rest_of all first pieces) ≡ image_commits (frames_between whole 0 0 pieces)
+  pub moved : commits ++ commits_in (rest_of all first pieces) ≡ commits_in (frames_between whole 0 0 pieces)
   pub there : (seq : ℕ) → first ≤ seq → seq < pieces → IsSome (frame_of all 0 seq)
 
 pub moved-begins : (all : List Arrivals) (pieces : ℕ) (commits : List Commit) → commits ≡ [] → AreKept all 0 0 pieces
@@ -118,28 +117,28 @@ moved-begins all pieces commits none there =
 -- one more is moved
 pub moved-more : ReleasesLeaveOthers → (whole all new : List Arrivals) (pieces first : ℕ) (commits more : List Commit) (piece : Frame)
     → AreMovedTo whole all pieces first commits → first < pieces → frame_of all 0 first ≡ Some piece → new ≡ released all 0 first
-    → length new ≡ length all → more ≡ commits ++ record { worker = 0; entries = piece.entries } ∷ []
+    → length new ≡ length all → more ≡ commits ++ record { worker = 0; entries = waiting_entries piece.entries } ∷ []
     → AreMovedTo whole new pieces (first + 1) more
 moved-more law whole all new pieces first commits more piece so below is left workers pushed =
     let others : (seq : ℕ) → first + 1 ≤ seq → frame_of new 0 seq ≡ frame_of all 0 seq =
     λ seq above. ap (λ (all : List Arrivals). frame_of all 0 seq) left ∙ law all 0 first seq (λ e. omega (arith, e, above)) in
     record {
       workers = workers ∙ so.workers;
-      many = ap length pushed ∙ length-append commits (record { worker = 0; entries = piece.entries } ∷ []) ∙ ap (λ (n : ℕ). n + 1) so.many;
+      many = ap length pushed ∙ length-append commits (record { worker = 0; entries = waiting_entries piece.entries } ∷ []) ∙ ap (λ (n : ℕ). n + 1) so.many;
       moved =
-          ap (λ (l : List Commit). l ++ image_commits (rest_of new (first + 1) pieces)) pushed
-          ∙ append_assoc commits (record { worker = 0; entries = piece.entries } ∷ []) (image_commits (rest_of new (first + 1) pieces))
-          ∙ ap (λ (frames : List Frame). commits ++ record { worker = 0; entries = piece.entries } ∷ image_commits frames)
+          ap (λ (l : List Commit). l ++ commits_in (rest_of new (first + 1) pieces)) pushed
+          ∙ append_assoc commits (record { worker = 0; entries = waiting_entries piece.entries } ∷ []) (commits_in (rest_of new (first + 1) pieces))
+          ∙ ap (λ (frames : List Frame). commits ++ record { worker = 0; entries = waiting_entries piece.entries } ∷ commits_in frames)
           (frames-same (arrivals_of new 0).kept (arrivals_of all 0).kept (first + 1) (pieces - (first + 1)) others)
-          ∙ ap (λ (frames : List Frame). commits ++ image_commits frames)
+          ∙ ap (λ (frames : List Frame). commits ++ commits_in frames)
           (sym (frames-here (arrivals_of all 0).kept first pieces piece below is))
           ∙ so.moved;
       there = λ seq above under. subst (λ (found : Option Frame). IsSome found) (sym (others seq above)) (so.there seq (omega arith) under);
     }
 
 pub moved-ends : (whole all : List Arrivals) (pieces first : ℕ) (commits : List Commit) → AreMovedTo whole all pieces first commits
-    → pieces ≤ first → commits ≡ image_commits (frames_between whole 0 0 pieces)
+    → pieces ≤ first → commits ≡ commits_in (frames_between whole 0 0 pieces)
 moved-ends whole all pieces first commits so past =
     let none : pieces - first ≡ 0 = omega arith in
     sym (append-nil commits)
-    ∙ ap (λ (count : ℕ). commits ++ image_commits (frames_at (arrivals_of all 0).kept first count)) (sym none) ∙ so.moved
+    ∙ ap (λ (count : ℕ). commits ++ commits_in (frames_at (arrivals_of all 0).kept first count)) (sym none) ∙ so.moved

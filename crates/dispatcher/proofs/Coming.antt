@@ -44,6 +44,12 @@ not-stored all bases frame apart =
     by false true apart = refl
     by false false apart = absurd (apart refl)
 
+pub not-taken : (all : List Arrivals) (bases : List ℕ) (frame : Frame) (answer : Taken) → answer ≡ (taken all bases frame).0
+    → (answer ≡ Stored → ⊥) → taken all bases frame ≡ (answer, all)
+not-taken all bases frame answer is apart =
+    ap (λ (answer : Taken). (answer, (taken all bases frame).1)) (sym is)
+    ∙ ap (λ (all : List Arrivals). (answer, all)) (not-stored all bases frame (λ e. apart (is ∙ e)))
+
 -- what a replica answers, with what an intake made of it put into its place, unless it is not taken
 abbrev pub answer_to : Bool → Replica → (List Arrivals → Replica) → Taken × List Arrivals → Got × Replica
 answer_to unfit r put told = cond unfit (got.Ignored, r) (got_of told.0, put told.1)

@@ -21,3 +21,4 @@ pub mod Dumping
 pub mod Reports
 pub mod Walk
 pub mod Gapping
+pub mod Waiting

@@ -17,7 +17,7 @@ use Rattle.intake.specs.Kept.{AreKept, frames_between}
 use Rattle.intake.specs.Laws.{ReleasesLeaveOthers}
 use Rattle.intake.specs.State.{Arrivals, frame_of}
 use Rattle.intake.specs.Steps.{released}
-use Rattle.dispatcher.specs.Images.{image_commits}
+use Rattle.dispatcher.specs.Inner.Held.{waiting_entries, commits_in}
 use Rattle.dispatcher.specs.Inner.Parts.{IsPartDone}
 use Rattle.dispatcher.proofs.Collecting.{AreMovedTo, moved-begins, moved-more, moved-ends, rest_of}
 use Rattle.dispatcher.proofs.Versions.{apply_commits-append}
@@ -48,43 +48,27 @@ pub refused-first : (next : Tables → Result Tables Refusal) (first : Result Ta
 refused-first next (Ok after) h = absurd (cc)
 refused-first next (Err refusal) h = refl
 
-any-behind : (front more : Bool) → more ≡ true → (front || more) ≡ true
-any-behind true more h = refl
-any-behind false more h = h
-
-any-before : (more rest : Bool) → more ≡ true → (more || rest) ≡ true
-any-before true rest h = refl
-any-before false rest h = absurd (false≢true h)
-
--- a part that fails fails as all that is applied
-fails-more : (fault : ApplyFault) (now then : Bool) (begun before : Tables) (done more rest : List Commit) → now ≡ true → then ≡ true
-    → apply_commits begun done ≡ Ok before → FailsAs now (have_entries more) (apply_commits before more) fault
-    → FailsAs then (have_entries ((done ++ more) ++ rest)) (apply_commits begun ((done ++ more) ++ rest)) fault
-fails-more applying.Inconsistent now then begun before done more rest is-now is-then made fails = (
-  is-then,
-  subst (λ (result : Result Tables Refusal). IsErr result)
-      (sym (apply_commits-append begun (done ++ more) rest
-      ∙ ap (and_then (λ after. apply_commits after rest)) (apply-more begun before done more made)))
-      (refused-first (λ after. apply_commits after rest) (apply_commits before more) fails.1),
-)
-fails-more applying.Memory now then begun before done more rest is-now is-then made fails = (
-  is-then,
-  list_any-append (λ (commit : Commit). nat_lt 0 (length commit.entries)) (done ++ more) rest
-      ∙ any-before (have_entries (done ++ more)) (have_entries rest)
-      (list_any-append (λ (commit : Commit). nat_lt 0 (length commit.entries)) done more
-      ∙ any-behind (have_entries done) (have_entries more) fails.1),
-)
-fails-more applying.Broken now then begun before done more rest is-now is-then made fails = absurd (false≢true (sym fails ∙ is-now))
+-- a part that cannot be applied can be so with nothing around it
+fails-more : (fault : ApplyFault) (now some : Bool) (begun before : Tables) (done more rest : List Commit)
+    → apply_commits begun done ≡ Ok before → FailsAs now some (apply_commits before more) fault → fault ≡ applying.Inconsistent
+    → IsErr (apply_commits begun ((done ++ more) ++ rest))
+fails-more applying.Inconsistent now some begun before done more rest made fails is =
+    subst (λ (result : Result Tables Refusal). IsErr result)
+    (sym (apply_commits-append begun (done ++ more) rest
+    ∙ ap (and_then (λ after. apply_commits after rest)) (apply-more begun before done more made)))
+    (refused-first (λ after. apply_commits after rest) (apply_commits before more) fails.1)
+fails-more applying.Memory now some begun before done more rest made fails is = absurd (cc)
+fails-more applying.Broken now some begun before done more rest made fails is = absurd (cc)
 
 module _ (law : ReleasesLeaveOthers) (whole all new : List Arrivals) (pieces first : ℕ) (begun before : Tables)
     (part more : List Commit) (piece : Frame) (so : AreAppliedTo whole all pieces first begun before part) (below : first < pieces)
     (is : frame_of all 0 first ≡ Some piece) (left-of : new ≡ released all 0 first) (workers : length new ≡ length all)
-    (pushed : more ≡ part ++ record { worker = 0; entries = piece.entries } ∷ []) where
+    (pushed : more ≡ part ++ record { worker = 0; entries = waiting_entries piece.entries } ∷ []) where
   moved-now : AreMovedTo whole new pieces (first + 1) (so.done ++ more)
   moved-now =
       moved-more law whole all new pieces first (so.done ++ part) (so.done ++ more) piece so.moved below is left-of workers
       (ap (λ (l : List Commit). so.done ++ l) pushed
-      ∙ sym (append_assoc so.done part (record { worker = 0; entries = piece.entries } ∷ [])))
+      ∙ sym (append_assoc so.done part (record { worker = 0; entries = waiting_entries piece.entries } ∷ [])))
 
   pub applied-more : (last : Bool) (room : ℕ) (now : Tables) (kept : List Commit) → last ≡ ((first + 1) == pieces)
       → IsPartDone last room before more now kept → AreAppliedTo whole new pieces (first + 1) begun now kept
@@ -103,13 +87,11 @@ module _ (law : ReleasesLeaveOthers) (whole all new : List Arrivals) (pieces fir
     rest = λ past. absurd (false≢true (sym not ∙ is-it ∙ is-last first pieces below past));
   }
 
-  pub applied-fails : (fault : ApplyFault) (now then : Bool) → now ≡ true → then ≡ true
-      → FailsAs now (have_entries more) (apply_commits before more) fault
-      → FailsAs then (have_entries (image_commits (frames_between whole 0 0 pieces)))
-      (apply_commits begun (image_commits (frames_between whole 0 0 pieces))) fault
-  applied-fails fault now then is-now is-then fails =
-      subst (λ (l : List Commit). FailsAs then (have_entries l) (apply_commits begun l) fault) moved-now.moved
-      (fails-more fault now then begun before so.done more (image_commits (rest_of new (first + 1) pieces)) is-now is-then so.made fails)
+  pub applied-fails : (fault : ApplyFault) (now some : Bool) → FailsAs now some (apply_commits before more) fault
+      → fault ≡ applying.Inconsistent → IsErr (apply_commits begun (commits_in (frames_between whole 0 0 pieces)))
+  applied-fails fault now some fails is =
+      subst (λ (l : List Commit). IsErr (apply_commits begun l)) moved-now.moved
+      (fails-more fault now some begun before so.done more (commits_in (rest_of new (first + 1) pieces)) so.made fails is)
 
   -- there is room for one more
   pub room-left : (last : Bool) (room : ℕ) (now : Tables) (kept : List Commit) → 0 < room
@@ -119,7 +101,7 @@ module _ (law : ReleasesLeaveOthers) (whole all new : List Arrivals) (pieces fir
 
 pub applied-ends : (whole all : List Arrivals) (pieces first : ℕ) (begun now : Tables) (part : List Commit)
     → AreAppliedTo whole all pieces first begun now part → pieces ≤ first
-    → apply_commits begun (image_commits (frames_between whole 0 0 pieces)) ≡ Ok now
+    → apply_commits begun (commits_in (frames_between whole 0 0 pieces)) ≡ Ok now
 applied-ends whole all pieces first begun now part so past =
     ap (apply_commits begun)
     (sym (moved-ends whole all pieces first (so.done ++ part) so.moved past)

@@ -10,6 +10,8 @@ ghost use Rattle.rows.specs.Shape.{shape_of};
 ghost use Rattle.rows.specs.Tables.{opening, shape_in};
 ghost use Rattle.queries.specs.Checking.{checked};
 ghost use Rattle.intake.specs.Steps.{lacking};
+ghost use Rattle.wire.specs.Reading.{reading};
+ghost use Rattle.wire.specs.declared.datagram.Datagram.TheVariants as DatagramOf;
 ghost use Rattle.dispatcher.specs.State.{Replica, protocol_of};
 ghost use Rattle.dispatcher.specs.Images.{piece_frame};
 ghost use Rattle.dispatcher.specs.Protocol.{is_own, by_image, bases_at, fetched_for, fetched_in, lacking_piece, pull_for, want_for};
@@ -285,7 +287,7 @@ impl<S: ApplyStore + Sync> ReplicaCore<S> {
                     last,
                     entries,
                 },
-            ) => self.take_piece(base, number, last, &entries),
+            ) => self.take_piece(base, number, last, &entries, bytes),
             _ => Got::Ignored,
         }
     }
@@ -380,14 +382,7 @@ impl<S: ApplyStore + Sync> ReplicaCore<S> {
         if let Some(fetched) = &batch.fetched
             && fetched.is_by_image(self.version)
         {
-            push_gaps(
-                self.pieces.intake(),
-                &[],
-                &[fetched.pieces],
-                stride,
-                most,
-                gaps,
-            );
+            self.pieces.push_gaps(fetched.pieces, stride, most, gaps);
         }
     }
 
@@ -480,9 +475,17 @@ impl<S: ApplyStore + Sync> ReplicaCore<S> {
         got_of(self.intake.take_owned(bases, frame))
     }
 
-    /// Takes a piece.
-    fn take_piece(&mut self, base: u64, number: u64, last: bool, entries: &LentEntries<'_>) -> Got
-        requires { self.old.broken ≡ false }
+    /// Takes the piece that these bytes spell.
+    fn take_piece(
+        &mut self,
+        base: u64,
+        number: u64,
+        last: bool,
+        entries: &LentEntries<'_>,
+        bytes: &[u8],
+    ) -> Got
+        requires whole { self.old.broken ≡ false }
+        requires spelled { reading bytes.now ≡ Ok (DatagramOf.Piece base number last entries.now) }
         ensures { MayTake self.old (piece_comes self.old (piece_frame base number last entries.now)) result self.new }
     {
         if !wants_piece(self.version, &self.batch, base, number) {
@@ -491,21 +494,7 @@ impl<S: ApplyStore + Sync> ReplicaCore<S> {
         if !entries.have_table(self.schema.len()) {
             return Got::Ignored;
         }
-        match self.pieces.would_take(number) {
-            Taken::Stored => {}
-            taken => return got_of(taken),
-        }
-        let Ok(entries) = entries.to_list(self.alloc) else {
-            return Got::Memory;
-        };
-        let piece = Frame {
-            worker: 0,
-            seq: number,
-            commit: base,
-            last,
-            entries,
-        };
-        got_of(self.pieces.take(piece))
+        got_of(self.pieces.take(self.alloc, base, number, last, bytes))
     }
 
     /// Whether a Head answers its newest request.
@@ -661,7 +650,7 @@ impl<S: ApplyStore + Sync> ReplicaCore<S> {
         self.store.clear();
         match self
             .pieces
-            .apply_to(rt, fetched.pieces, &mut part, &mut self.store)
+            .apply_to(rt, self.alloc, fetched.pieces, &mut part, &mut self.store)
         {
             Ok(()) => self.apply(rt, merge, fetched),
             Err(fault) => {

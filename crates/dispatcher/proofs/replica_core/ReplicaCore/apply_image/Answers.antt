@@ -1,5 +1,6 @@
 -- There are as many tables once the image is applied to none.
 use Rattle.std.proofs.Common.{◌≡◌, ℕ, Bool, true, false, cond, List, [], Ok, Err, length, refl, sym, ap, subst, ◌∙◌}
+use Rattle.std.specs.Prelude.{IsErr}
 use Rattle.std.proofs.lemmas.List.{length-map}
 use Rattle.rows.specs.declared.commit.Commit.{Commit}
 use Rattle.rows.specs.declared.kind.Kind.{Kind}
@@ -14,7 +15,7 @@ use Rattle.dispatcher.specs.Inner.Merging.{merging_of}
 use Rattle.dispatcher.specs.Inner.Parts.{Applies, AppliesImage}
 use Rattle.dispatcher.specs.Protocol.{by_image}
 use Rattle.dispatcher.specs.declared.faults.CatchUpFault.{CatchUpFault}
-use Rattle.store.specs.Faults.{FailsAs, have_entries}
+use Rattle.store.specs.declared.faults.ApplyFault.TheVariants as applying
 use Rattle.dispatcher.specs.State.{Replica, Pieces, no_pieces}
 use Rattle.dispatcher.specs.Steps.{broken_of}
 use Rattle.dispatcher.proofs.Applying.{image-applies, image-fails}
@@ -108,11 +109,11 @@ returns g c =
     let base : c.apply_to.new.self.base ≡ replica.pieces.base =
     ap (λ (pieces : Pieces). pieces.base) c.apply_to.ensures.left ∙ sym (seen-base a.broken a.pieces) in
     let shape = c.apply_to.ensures.base ∙ c.clear.ensures.base in
-    let fails =
-    subst (λ (tables : Tables). FailsAs (g.S.Store.is_whole c.clear.new.self) (have_entries kept)
-    (apply_commits tables (image_commits frames)) c.in-Err.fault) opened
-    (subst (λ (commits : List Commit). FailsAs (g.S.Store.is_whole c.clear.new.self) (have_entries kept)
-    (apply_commits (g.S.Store.tables c.clear.new.self) commits) c.in-Err.fault) same c.in-Err.ensures.err) in
+    let fails : c.in-Err.fault ≡ applying.Inconsistent → IsErr (apply_commits (opening replica.shape) (image_commits frames)) =
+    λ is.
+    subst (λ (tables : Tables). IsErr (apply_commits tables (image_commits frames))) opened
+    (subst (λ (commits : List Commit). IsErr (apply_commits (g.S.Store.tables c.clear.new.self) commits)) same
+    (c.in-Err.ensures.err is)) in
     let new : Replica =
     record replica {
       shape = g.S.Store.base_shape c.apply_to.new.store;
@@ -132,5 +133,4 @@ returns g c =
     subst (λ (r : Replica). AppliesImage r fetched (merging_of r.arrivals fetched.counts c.args.merge.now) (Err c.catch_up_fault.result) new)
     c.self.view_is
     (subst (λ (fault : CatchUpFault). AppliesImage replica fetched merging (Err fault) new) (sym c.catch_up_fault.ensures)
-    (image-fails replica fetched merging image (g.S.Store.is_whole c.clear.new.self) (have_entries kept)
-    c.in-Err.fault new broken fails))
+    (image-fails replica fetched merging image c.in-Err.fault new broken fails))

@@ -1,15 +1,13 @@
 -- Each test of the code is that of `piece_comes`, in the same order.
-use Rattle.std.proofs.Common.{◌≡◌, ℕ, Bool, true, false, cond, not, ◌||◌, List, [], inl, inr, length, refl, sym, ap, subst, ◌∙◌}
-use Rattle.rows.specs.declared.entry.Entry.{Entry}
+use Rattle.std.proofs.Common.{◌≡◌, ℕ, Bool, true, false, cond, not, ◌||◌, List, [], inr, length, refl, sym, ap, subst, ◌∙◌}
 use Rattle.update_log.specs.declared.frame.Frame.{Frame}
 use Rattle.intake.specs.State.{Arrivals}
-use Rattle.intake.specs.Steps.{taken}
 use Rattle.dispatcher.specs.Images.{piece_frame}
 use Rattle.dispatcher.specs.Inner.Invariant.{replica_of}
 use Rattle.dispatcher.specs.Protocol.{fetched_for, wants_piece}
 use Rattle.dispatcher.specs.State.{Replica, Pieces, no_pieces}
 use Rattle.dispatcher.specs.Steps.{have_tables, piece_comes, MayTake}
-use Rattle.dispatcher.proofs.Coming.{Takes, all_there, unfit-is, comes-unfit, comes-apart, comes-stored, comes-taken}
+use Rattle.dispatcher.proofs.Coming.{Takes, all_there, unfit-is, comes-unfit, comes-taken}
 use Rattle.dispatcher.proofs.Standing.{seen-many, seen-pieces}
 use Rattle.dispatcher.proofs.replica_core.ReplicaCore.take_piece.Goals as goal
 
@@ -29,7 +27,7 @@ pub returns-then-not-have_table : goal.returns-then-not-have_table
 returns-then-not-have_table g c =
     let replica = replica_of g.S.Store.tables g.S.Store.base_shape c.self.inside in
     let piece = piece_frame c.args.base c.args.number c.args.last c.args.entries.now in
-    let whole : c.self.inside.broken ≡ false = rw (← c.self.view_is) at c.requires in
+    let whole : c.self.inside.broken ≡ false = rw (← c.self.view_is) at c.requires.whole in
     let seen = seen-many g.S.Store.is_whole g.S.Store.tables g.S.Store.base_shape c.self.inside c.self.invariant whole in
     let is =
     unfit-is replica c.args.entries.now (length c.self.inside.schema)
@@ -38,49 +36,11 @@ returns-then-not-have_table g c =
     (sym (c.have_table.ensures ∙ ap (all_there c.args.entries.now) c.len.ensures) ∙ c.if-not-have_table.true) in
     rw (← c.self.view_is) (inr (comes-unfit replica (put replica) replica.pieces.arrivals [] piece (unfit replica piece) refl is))
 
-pub returns-in_default : goal.returns-in_default
-returns-in_default g c =
-    let replica = replica_of g.S.Store.tables g.S.Store.base_shape c.self.inside in
-    let piece = piece_frame c.args.base c.args.number c.args.last c.args.entries.now in
-    let whole : c.self.inside.broken ≡ false = rw (← c.self.view_is) at c.requires in
-    let seen = seen-many g.S.Store.is_whole g.S.Store.tables g.S.Store.base_shape c.self.inside c.self.invariant whole in
-    let pieces : replica.pieces ≡ c.self.inside.pieces =
-    seen-pieces g.S.Store.tables g.S.Store.base_shape c.self.inside whole in
-    let is =
-    unfit-is replica c.args.entries.now (length c.self.inside.schema)
-    (wants_piece c.self.inside.version (fetched_for replica.batch) c.args.base c.args.number) true _ seen
-    (sym c.wants_piece.ensures ∙ c.if-not-wants_piece.false)
-    (sym (c.have_table.ensures ∙ ap (all_there c.args.entries.now) c.len.ensures) ∙ c.if-not-have_table.false) in
-    rw (← c.self.view_is) (inr (comes-apart replica (put replica) replica.pieces.arrivals [] piece (unfit replica piece) refl is
-    c.would_take.result c.got_of.result
-    (c.would_take.ensures piece refl refl ∙ ap (λ (pieces : Pieces). (taken pieces.arrivals [] piece).0) (sym pieces))
-    c.in_default.not-Stored c.got_of.ensures))
-
-pub returns-in_default-to_list : goal.returns-in_default-to_list
-returns-in_default-to_list g c =
-    let replica = replica_of g.S.Store.tables g.S.Store.base_shape c.self.inside in
-    let piece = piece_frame c.args.base c.args.number c.args.last c.args.entries.now in
-    let whole : c.self.inside.broken ≡ false = rw (← c.self.view_is) at c.requires in
-    let seen = seen-many g.S.Store.is_whole g.S.Store.tables g.S.Store.base_shape c.self.inside c.self.invariant whole in
-    let pieces : replica.pieces ≡ c.self.inside.pieces =
-    seen-pieces g.S.Store.tables g.S.Store.base_shape c.self.inside whole in
-    let is =
-    unfit-is replica c.args.entries.now (length c.self.inside.schema)
-    (wants_piece c.self.inside.version (fetched_for replica.batch) c.args.base c.args.number) true _ seen
-    (sym c.wants_piece.ensures ∙ c.if-not-wants_piece.false)
-    (sym (c.have_table.ensures ∙ ap (all_there c.args.entries.now) c.len.ensures) ∙ c.if-not-have_table.false) in
-    rw (← c.self.view_is) (inl (
-      refl,
-      refl,
-      comes-stored replica (put replica) replica.pieces.arrivals [] piece (unfit replica piece) refl is
-          (c.in-Stored.ensures piece refl refl ∙ ap (λ (pieces : Pieces). (taken pieces.arrivals [] piece).0) (sym pieces)),
-    ))
-
 pub returns : goal.returns
 returns g c =
     let replica = replica_of g.S.Store.tables g.S.Store.base_shape c.self.inside in
-    let piece = λ (entries : List Entry). piece_frame c.args.base c.args.number c.args.last entries in
-    let whole : c.self.inside.broken ≡ false = rw (← c.self.view_is) at c.requires in
+    let piece = piece_frame c.args.base c.args.number c.args.last c.args.entries.now in
+    let whole : c.self.inside.broken ≡ false = rw (← c.self.view_is) at c.requires.whole in
     let seen = seen-many g.S.Store.is_whole g.S.Store.tables g.S.Store.base_shape c.self.inside c.self.invariant whole in
     let pieces : replica.pieces ≡ c.self.inside.pieces =
     seen-pieces g.S.Store.tables g.S.Store.base_shape c.self.inside whole in
@@ -90,14 +50,11 @@ returns g c =
     (sym c.wants_piece.ensures ∙ c.if-not-wants_piece.false)
     (sym (c.have_table.ensures ∙ ap (all_there c.args.entries.now) c.len.ensures) ∙ c.if-not-have_table.false) in
     let took =
-    subst (λ (entries : List Entry). Takes replica.pieces.arrivals [] (piece entries) c.take.result c.take.new.self.arrivals)
-    c.in-Ok.ensures
-    (subst (λ (pieces : Pieces). Takes pieces.arrivals [] (piece c.in-Ok.entries) c.take.result c.take.new.self.arrivals) (sym pieces)
-    c.take.ensures.takes) in
+    subst (λ (pieces : Pieces). Takes pieces.arrivals [] piece c.take.result c.take.new.self.arrivals) (sym pieces)
+    (c.take.ensures.takes c.args.entries.now c.requires.spelled) in
     let put_is =
     pieces-put c.self.inside.broken c.self.inside.pieces c.take.new.self whole c.take.ensures.base in
     rw (← c.self.view_is)
-    (subst (λ (pieces : Pieces). MayTake replica (piece_comes replica (piece c.args.entries.now)) c.got_of-2.result
-    (record replica { pieces = pieces })) put_is
-    (comes-taken replica (put replica) replica.pieces.arrivals [] (piece c.args.entries.now) (unfit replica (piece c.args.entries.now)) refl
-    is c.take.result c.take.new.self.arrivals c.got_of-2.result took c.got_of-2.ensures))
+    (subst (λ (pieces : Pieces). MayTake replica (piece_comes replica piece) c.got_of.result (record replica { pieces = pieces })) put_is
+    (comes-taken replica (put replica) replica.pieces.arrivals [] piece (unfit replica piece) refl is c.take.result
+    c.take.new.self.arrivals c.got_of.result took c.got_of.ensures))
