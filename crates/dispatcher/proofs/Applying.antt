@@ -8,7 +8,6 @@ use Rattle.rows.specs.Commits.{apply_commits}
 use Rattle.rows.specs.Tables.{Tables, Refusal, opening, and_then}
 use Rattle.store.specs.declared.faults.ApplyFault.{ApplyFault}
 use Rattle.store.specs.declared.faults.ApplyFault.TheVariants as applying
-use Rattle.store.specs.Faults.{FailsAs}
 use Rattle.intake.specs.Kept.{frames_between}
 use Rattle.update_log.specs.declared.frame.Frame.{Frame}
 use Rattle.ordering.specs.Laws.{MergeIsUnique, PartBeginsMerge, MergeBeginsWithPart}

@@ -1,17 +1,16 @@
 -- The pieces of an image, applied part by part.
-use Rattle.std.proofs.Common.{◌≡◌, ℕ, ◌+◌, ◌<◌, ◌≤◌, ◌==◌, ◌||◌, Bool, true, false, List, [], ◌∷◌, ◌++◌, length, Some}
-use Rattle.std.proofs.Common.{Result, Ok, Err, inl, inr, nat_lt, refl, sym, ap, subst, ◌∙◌, arith}
+use Rattle.std.proofs.Common.{◌≡◌, ℕ, ◌+◌, ◌<◌, ◌≤◌, ◌==◌, Bool, true, false, List, [], ◌∷◌, ◌++◌, length, Some}
+use Rattle.std.proofs.Common.{Result, Ok, Err, inl, inr, refl, sym, ap, subst, ◌∙◌, arith}
 use Rattle.std.specs.Prelude.{IsErr}
 use Rattle.std.proofs.lemmas.Bool.{false≢true}
 use Rattle.std.proofs.lemmas.Bool.Decides.{nat_tests}
 use Rattle.std.proofs.lemmas.List.{append_assoc, append-nil}
-use Rattle.std.proofs.lemmas.List.Folds.{list_any-append}
 use Rattle.rows.specs.declared.commit.Commit.{Commit}
 use Rattle.rows.specs.Commits.{apply_commits}
 use Rattle.rows.specs.Tables.{Tables, Refusal, and_then}
 use Rattle.store.specs.declared.faults.ApplyFault.{ApplyFault}
 use Rattle.store.specs.declared.faults.ApplyFault.TheVariants as applying
-use Rattle.store.specs.Faults.{FailsAs, have_entries}
+use Rattle.store.specs.Faults.{FailsAs}
 use Rattle.update_log.specs.declared.frame.Frame.{Frame}
 use Rattle.intake.specs.Kept.{AreKept, frames_between}
 use Rattle.intake.specs.Laws.{ReleasesLeaveOthers}

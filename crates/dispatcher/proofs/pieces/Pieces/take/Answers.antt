@@ -1,5 +1,5 @@
 -- A piece is kept as it came, and seen as what it comes to; each that is known is kept.
-use Rattle.std.proofs.Common.{◌≡◌, List, [], inl, inr, refl, sym, ap, subst, ◌∙◌}
+use Rattle.std.proofs.Common.{List, [], inl, inr, refl, sym, ap, subst, ◌∙◌}
 use Rattle.rows.specs.declared.entry.Entry.{Entry}
 use Rattle.dispatcher.specs.Images.{piece_frame}
 use Rattle.dispatcher.specs.Inner.Held.{entries_in, pieces_in}
