@@ -1,13 +1,13 @@
-//! The merge of frames that came in any order: the commits that they hold, and where they hold
-//! none.
+//! The merge of frames that came in any order: the commits that they hold, part by part, and where
+//! they hold none.
 
-ghost use Rattle.std.specs.Prelude.{◌≡◌, ◌≤◌, length, true};
+ghost use Rattle.std.specs.Prelude.{◌≡◌, ◌<◌, ◌≤◌, length, true};
 ghost use Rattle.rows.specs.Limits.{workers_max};
 ghost use Rattle.intake.specs.Kept.{AreAllKept, AreKept};
 
 use intake::Intake;
-use ordering::{OrderFault, one_merge, ordered};
-use rows::{Entry, EntryList, RowId};
+use ordering::{OrderFault, next_commits, one_merge, parts_make_the_merge};
+use rows::{Commit, Entry, EntryList, RowId};
 use std::alloc::{AllocError, Global};
 use std::test::Fail;
 use update_log::Frame;
@@ -167,28 +167,78 @@ fn are_kept(intake: &Intake, low: &[u64], high: &[u64]) -> bool
     true
 }
 
-/// What is answered of the frames that an intake keeps: for each commit its worker and how many
-/// entries it has.
+/// Adds for each commit of a part its worker and how many entries it has.
+fn say(part: &[Commit], said: &mut Vec<u64>) -> Result<(), OrderFault> {
+    for commit in part {
+        let parts = [u64::from(commit.worker), commit.entries.len() as u64];
+        if said.extend_from_slice(&parts).is_err() {
+            return Err(OrderFault::Memory);
+        }
+    }
+    Ok(())
+}
+
+/// What a merge gave: for each commit its worker and how many entries it has, and for each part how
+/// many commits.
+#[derive(Drop)]
+struct Merged {
+    said: Vec<u64>,
+    parts: Vec<u64>,
+}
+
+/// What a merge of kept frames gives in parts of at most so many commits.
+fn merge_in_parts(
+    alloc: Global,
+    intake: &Intake,
+    low: [u64; 2],
+    high: [u64; 2],
+    versions: (u64, u64),
+    room: usize,
+) -> Result<Merged, OrderFault>
+    requires room { 0 < room }
+    requires kept { AreAllKept intake.now low high }
+    requires versions { versions.0 ≤ versions.1 }
+{
+    let (mut before, to) = versions;
+    let mut said = Vec::new(alloc);
+    let mut parts = Vec::new(alloc);
+    let mut at = low;
+    let Ok(mut part) = Vec::with_capacity(alloc, room) else {
+        return Err(OrderFault::Memory);
+    };
+    'parts: loop {
+        next_commits(alloc, intake, &mut at, &high, before, to, &mut part)?;
+        say(&part, &mut said)?;
+        let taken = part.len() as u64;
+        if parts.push(taken).is_err() {
+            return Err(OrderFault::Memory);
+        }
+        before += taken;
+        if before == to {
+            return Ok(Merged { said, parts });
+        }
+        part.clear();
+    }
+}
+
+/// What is answered of the frames that an intake keeps, taken in parts of so many commits.
 fn answer_of(
     alloc: Global,
     intake: &Intake,
     low: [u64; 2],
     high: [u64; 2],
     versions: (u64, u64),
-) -> Result<Vec<u64>, OrderFault> {
-    let (from, to) = versions;
-    let mut said = Vec::new(alloc);
-    if from > to || !are_kept(intake, &low, &high) {
-        return Ok(said);
+    room: usize,
+) -> Result<Vec<u64>, OrderFault>
+    requires { 0 < room }
+{
+    if versions.0 > versions.1 || !are_kept(intake, &low, &high) {
+        return Ok(Vec::new(alloc));
     }
-    let commits = ordered(alloc, intake, &low, &high, from, to)?;
-    for commit in &commits {
-        let parts = [u64::from(commit.worker), commit.entries.len() as u64];
-        if said.extend_from_slice(&parts).is_err() {
-            return Err(OrderFault::Memory);
-        }
+    match merge_in_parts(alloc, intake, low, high, versions, room) {
+        Ok(Merged { said, .. }) => Ok(said),
+        Err(fault) => Err(fault),
     }
-    Ok(said)
 }
 
 /// Whether that is what was to be answered.
@@ -200,12 +250,18 @@ fn is_said(said: &Result<Vec<u64>, OrderFault>, expected: Result<&[u64], OrderFa
     }
 }
 
-/// Whether the frames of a case are answered as it says.
+/// Whether the frames of a case are answered as it says, in parts of at most four commits, of three,
+/// of two, and of one: the cases have three at most.
 fn is_answered(alloc: Global, case: &Case) -> Result<bool, AllocError> {
     let (sketches, low, high, versions, expected) = *case;
     let intake = intake_of(alloc, sketches)?;
-    let said = answer_of(alloc, &intake, low, high, versions);
-    Ok(is_said(&said, expected))
+    for room in 1..5 {
+        let said = answer_of(alloc, &intake, low, high, versions, room);
+        if !is_said(&said, expected) {
+            return Ok(false);
+        }
+    }
+    Ok(true)
 }
 
 /// The index of the first case that is answered otherwise.
@@ -229,6 +285,33 @@ fn frames_that_hold_no_commits_are_refused(rt: HostRuntime) -> Result<(), Fail> 
     assert_eq!(rt; other_case(rt.alloc(), &OTHER_NUMBERS)?, None);
     assert_eq!(rt; other_case(rt.alloc(), &APART)?, None);
     assert_eq!(rt; other_case(rt.alloc(), &MARKED)?, None);
+    Ok(())
+}
+
+/// How many commits the parts have in which the three are taken, at most so many at once.
+fn parts_of_three(alloc: Global, room: usize) -> Result<Vec<u64>, OrderFault>
+    requires { 0 < room }
+{
+    let Ok(intake) = intake_of(alloc, &THREE) else {
+        return Err(OrderFault::Memory);
+    };
+    if !are_kept(&intake, &[0, 0], &[1, 3]) {
+        return Ok(Vec::new(alloc));
+    }
+    match merge_in_parts(alloc, &intake, [0, 0], [1, 3], (0, 3), room) {
+        Ok(Merged { parts, .. }) => Ok(parts),
+        Err(fault) => Err(fault),
+    }
+}
+
+#[test]
+fn each_part_but_the_last_is_full(rt: HostRuntime) -> Result<(), Fail> {
+    let one = parts_of_three(rt.alloc(), 1)?;
+    assert_eq!(rt; one.as_slice(), [1, 1, 1].as_slice());
+    let two = parts_of_three(rt.alloc(), 2)?;
+    assert_eq!(rt; two.as_slice(), [2, 1].as_slice());
+    let four = parts_of_three(rt.alloc(), 4)?;
+    assert_eq!(rt; four.as_slice(), [3].as_slice());
     Ok(())
 }
 
@@ -264,17 +347,18 @@ fn a_commit_has_at_most_4096_entries(rt: HostRuntime) -> Result<(), Fail> {
 #[test]
 fn merging_without_memory_says_so(rt: HostRuntime) -> Result<(), Fail> {
     let intake = intake_of(rt.alloc(), &THREE)?;
-    let first = answer_of(rt.alloc(), &intake, [0, 0], [1, 3], (0, 3));
+    let first = answer_of(rt.alloc(), &intake, [0, 0], [1, 3], (0, 3), 2);
     if first.is_err() {
         assert!(rt; matches!(first, Err(OrderFault::Memory)));
-        let again = answer_of(rt.alloc(), &intake, [0, 0], [1, 3], (0, 3))?;
+        let again = answer_of(rt.alloc(), &intake, [0, 0], [1, 3], (0, 3), 2)?;
         assert_eq!(rt; again.as_slice(), [1, 3, 0, 1, 1, 2].as_slice());
     }
     Ok(())
 }
 
-/// Its contract says them.
+/// Their contracts say them.
 #[test]
 fn laws_of_merging_are_proved() {
     one_merge();
+    parts_make_the_merge();
 }

@@ -16,6 +16,8 @@ mod images;
 #[cfg(test)]
 mod opened_plans;
 #[cfg(test)]
+mod parts;
+#[cfg(test)]
 mod replica;
 #[cfg(test)]
 mod two_workers;

@@ -51,6 +51,9 @@ pub enum Step<'a> {
     GetHeadWith(usize, u8, Got),
     /// This frame comes.
     GetInsert(Insert, Got),
+    /// The frames of the first so many commits come, of worker 0 and worker 1 in turn, each of which puts
+    /// in the row of its commit's number. They are kept.
+    GetCommits(u64),
     /// The Head of a request comes, at a version, of two workers with these counts.
     GetHead(u64, u64, [u64; 2], Got),
     /// The Head of a request comes, at a version, with a base, of two workers with these counts.
@@ -172,6 +175,7 @@ fn is_answered<R: Threads + Sync>(
             gets(replica, &changed(HEAD, *index, *byte), *answer)
         }
         Step::GetInsert(insert, answer) => gets(replica, &frame_of(*insert), *answer),
+        Step::GetCommits(count) => gets_commits(replica, *count),
         Step::GetHead(request, version, counts, answer) => {
             gets(replica, &head_of(*request, *version, *counts), *answer)
         }
@@ -196,6 +200,23 @@ fn is_answered<R: Threads + Sync>(
 /// Nothing is said of the answer, which keeps the bytes out of the proof of a step.
 fn gets(replica: &mut ReplicaCore<PlainStore>, bytes: &[u8], answer: Got) -> bool {
     replica.on_bytes(bytes) == answer
+}
+
+/// Whether it keeps the frames of the first so many commits, of two workers in turn.
+fn gets_commits(replica: &mut ReplicaCore<PlainStore>, count: u64) -> bool {
+    for before in 0..count {
+        let insert = Insert {
+            worker: (before % 2) as u8,
+            seq: before / 2,
+            commit: before + 1,
+            last: true,
+            row: before + 1,
+        };
+        if !gets(replica, &frame_of(insert), Got::Stored) {
+            return false;
+        }
+    }
+    true
 }
 
 /// The query that counts the rows of a table.
