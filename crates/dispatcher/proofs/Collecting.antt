@@ -124,10 +124,14 @@ moved-more law whole all new pieces first commits more piece so below is left wo
     λ seq above. ap (λ (all : List Arrivals). frame_of all 0 seq) left ∙ law all 0 first seq (λ e. omega (arith, e, above)) in
     record {
       workers = workers ∙ so.workers;
-      many = ap length pushed ∙ length-append commits (record { worker = 0; entries = waiting_entries piece.entries } ∷ []) ∙ ap (λ (n : ℕ). n + 1) so.many;
+      many =
+          ap length pushed
+          ∙ length-append commits (record { worker = 0; entries = waiting_entries piece.entries } ∷ [])
+          ∙ ap (λ (n : ℕ). n + 1) so.many;
       moved =
           ap (λ (l : List Commit). l ++ commits_in (rest_of new (first + 1) pieces)) pushed
-          ∙ append_assoc commits (record { worker = 0; entries = waiting_entries piece.entries } ∷ []) (commits_in (rest_of new (first + 1) pieces))
+          ∙ append_assoc commits (record { worker = 0; entries = waiting_entries piece.entries } ∷ [])
+          (commits_in (rest_of new (first + 1) pieces))
           ∙ ap (λ (frames : List Frame). commits ++ record { worker = 0; entries = waiting_entries piece.entries } ∷ commits_in frames)
           (frames-same (arrivals_of new 0).kept (arrivals_of all 0).kept (first + 1) (pieces - (first + 1)) others)
           ∙ ap (λ (frames : List Frame). commits ++ commits_in frames)

@@ -641,7 +641,8 @@ impl<S: ApplyStore + Sync> ReplicaCore<S> {
         requires ready { fetched_in (readiness_of self.old) ≡ Some (fetched_of fetched.now) }
         requires by_image { by_image self.old.version (fetched_of fetched.now) ≡ true }
         requires goes_on { CanGoOn self.old.arrivals fetched.now.counts fetched.now.version merge.old }
-        ensures { AppliesImage self.old (fetched_of fetched.now) (merging_of self.old.arrivals fetched.now.counts merge.old) result self.new }
+        ensures { AppliesImage self.old (fetched_of fetched.now) (merging_of self.old.arrivals fetched.now.counts merge.old) result
+            self.new }
     {
         changes_tell_kinds();
         let Ok(mut part) = Vec::with_capacity(self.alloc, PART_PIECES) else {

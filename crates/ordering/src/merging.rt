@@ -39,7 +39,8 @@ pub fn next_commits(
     requires kept { AreAllKept intake.now at.old high.now }
     requires versions { from ≤ to }
     requires empty { part.old.items ≡ [] }
-    ensures held { OnOk result (HoldFirst from part.new.items (frames_in intake.now at.old high.now) (frames_in intake.now at.new high.now)) }
+    ensures held { OnOk result (HoldFirst from part.new.items (frames_in intake.now at.old high.now)
+        (frames_in intake.now at.new high.now)) }
     ensures within { OnOk result (from + length part.new.items ≤ to) }
     ensures full { OnOk result (from + length part.new.items < to → length part.new.items ≡ vec_capacity part.old) }
     ensures end { OnOk result (from + length part.new.items ≡ to → IsMerge (frames_in intake.now at.new high.now) to to []) }

@@ -28,7 +28,8 @@ loop-before-preserved c =
           omega (arith, c.loop-before.invariant.counted, ap length pushed, length-append taken (commit ∷ []));
       kept = c.in-Ok.ensures.kept;
       held =
-          subst (λ (cs : List Commit). HoldFirst c.args.from cs (frames_in all c.args.at.now high) (frames_in all c.next_commit.new.at high))
+          subst
+          (λ (cs : List Commit). HoldFirst c.args.from cs (frames_in all c.args.at.now high) (frames_in all c.next_commit.new.at high))
           (sym pushed)
           (parts-join (frames_in all c.args.at.now high) (frames_in all c.loop-before.at high) (frames_in all c.next_commit.new.at high)
           c.args.from c.loop-before.before taken (commit ∷ []) c.loop-before.invariant.counted c.loop-before.invariant.held

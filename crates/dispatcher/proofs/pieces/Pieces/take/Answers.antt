@@ -39,6 +39,7 @@ returns-clause-takes c = λ entries is.
     let piece = λ (entries : List Entry). piece_frame c.args.base c.args.number c.args.last entries in
     rw (← c.self.view_is)
     (subst
-    (λ (entries : List Entry). Takes (pieces_in c.self.inside.intake) [] (piece entries) c.take_owned.result (pieces_in c.take_owned.new.self))
+    (λ (entries : List Entry). Takes (pieces_in c.self.inside.intake) [] (piece entries) c.take_owned.result
+    (pieces_in c.take_owned.new.self))
     (c.in-Ok.ensures ∙ ap entries_in is)
     (takes-seen c.self.inside.intake [] (piece c.in-Ok.entries) c.take_owned.result c.take_owned.new.self c.take_owned.ensures))

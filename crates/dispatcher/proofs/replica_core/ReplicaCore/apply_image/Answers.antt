@@ -130,7 +130,8 @@ returns g c =
     }) shape
     ∙ ap (λ (base : ℕ). record replica { tables = []; pieces = no_pieces base; broken = true }) base in
     let merging = merging_of a.intake fetched.counts c.args.merge.now in
-    subst (λ (r : Replica). AppliesImage r fetched (merging_of r.arrivals fetched.counts c.args.merge.now) (Err c.catch_up_fault.result) new)
+    subst
+    (λ (r : Replica). AppliesImage r fetched (merging_of r.arrivals fetched.counts c.args.merge.now) (Err c.catch_up_fault.result) new)
     c.self.view_is
     (subst (λ (fault : CatchUpFault). AppliesImage replica fetched merging (Err fault) new) (sym c.catch_up_fault.ensures)
     (image-fails replica fetched merging image c.in-Err.fault new broken fails))
