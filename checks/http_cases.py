@@ -162,6 +162,14 @@ def jobs_on_each_other(tally, at):
             grown = job(first, "column acct 3") + job(second, "set acct 50 2 7")
             tally.case(f"{name}: a column", shown(client.post(grown)), text(200, "job 0 ticket 110\njob 1 ticket 111\n"))
             tally.case(f"{name}: a row with a column", shown(client.get("/tables/acct/50")), text(200, "version 111\nacct 50 104 4 7\n"))
+            for row, values in ((50, '"104","4","7"'), (1, '"60","0","3"')):
+                found = shown(client.get(f"/tables/acct/{row}", "Accept: application/json"))
+                expected = f'{{"version":111,"table":"acct","row":"{row}","values":[{values}]}}\n'
+                tally.case(f"{name}: the row {row} with a column as JSON", found, (200, expected, JSON, UNCACHED))
+            # Neither looks at a row, so nothing but the conflict with what is pending has the second one wait.
+            both = job(first, "set acct 50 0 1") + job(second, "set acct 50 0 2")
+            tally.case(f"{name}: two jobs that set a row", shown(client.post(both)), text(200, "job 0 ticket 112\njob 1 ticket 113\n"))
+            tally.case(f"{name}: that row", shown(client.get("/tables/acct/50")), text(200, "version 113\nacct 50 2 4 7\n"))
 
 
 def largest_job(tally, at):
@@ -464,6 +472,7 @@ def refused(tally, node, body):
 def by_curl(tally, at, node):
     """What a person types."""
     if not shutil.which("curl"):
+        tally.told.append("cases: there is no curl here, so what a person types is not tried")
         return
     url = "http://{}:{}".format(*node.http)
     write(f"{at}/jobs", job(0, insert_of(2000, 7, 8)))
