@@ -3,6 +3,7 @@ goes on, answers others meanwhile, and has the rows that whole good jobs leave."
 
 import contextlib
 import itertools
+import json
 import random
 import socket
 import threading
@@ -365,29 +366,43 @@ def comes_in(node):
     return False
 
 
+# How a shell limits a node to so many descriptors, and how many clients come then; of these so many find one at least, and so many leave.
+DESCRIPTORS, CLIENTS, INSIDE, LEAVING = 40, 60, 20, 30
+FEW_DESCRIPTORS = f"-c 0; ulimit -n {DESCRIPTORS}"
+
+
 def descriptors(tally, at):
-    """A node with few descriptors: connections that find none wait, and it goes on, and takes them once others leave."""
-    with Primary(at, journal="few descriptors", limit="-c 0; ulimit -n 40") as node:
-        clients = [Client(node.http, SECONDS_MAX / 4) for _ in range(60)]
-        for client in clients:
-            client.send(get(node.http, "/none"))
-        first = [clients[number].answer().status for number in range(20)]
-        tally.case("the first of 60 clients of a node with 40 descriptors", first, [404] * 20)
-        found = clients[0].post(job(0, insert_of(1)))
-        tally.case("a job while there is no descriptor", (found.status, found.body), (200, b"job 0 ticket 1\n"))
-        start, spent = time.monotonic(), spent_by(node)
-        time.sleep(0.5)
-        clients[1].get("/none")
-        busy = (spent_by(node) - spent) / (time.monotonic() - start)
-        tally.told.append(f"hostile: without a descriptor a node with waiting connections uses {busy:.2f} of a processor")
-        for client in clients[:30]:
-            client.socket.close()
-        found = [client.answer() for client in clients[30:]]
-        tally.case("the others once these have left", [it and it.status for it in found], [404] * 30)
-        for client in clients[30:]:
-            client.socket.close()
-        tally.case("a new client", comes_in(node), True)
-        tally.case("the node", node.process.poll(), None)
+    """A primary with few descriptors."""
+    with Primary(at, journal="few descriptors", limit=FEW_DESCRIPTORS) as node:
+        asked, done = post(node.http, job(0, insert_of(1))), text(200, "job 0 ticket 1\n")
+        without_descriptors(tally, "hostile", node, lambda: (asked, done))
+
+
+def without_descriptors(tally, part, node, begin):
+    """A node with few descriptors: connections that find none wait, and it goes on, and takes them once others leave. `begin` is called
+    when there is no descriptor left; it tells what is asked then, and the answer."""
+    clients = [Client(node.http, SECONDS_MAX / 4) for _ in range(CLIENTS)]
+    for client in clients:
+        client.send(get(node.http, "/none"))
+    first = [clients[number].answer().status for number in range(INSIDE)]
+    tally.case(f"the first of {CLIENTS} clients of a node with {DESCRIPTORS} descriptors", first, [404] * INSIDE)
+    asked, expected = begin()
+    tally.case("a request while there is no descriptor", shown(clients[0].ask(asked)), expected)
+    inside = json.loads(clients[1].get("/status").body)["connections"]
+    tally.case("the connections then", INSIDE <= inside < DESCRIPTORS or inside, True)
+    start, spent = time.monotonic(), spent_by(node)
+    time.sleep(0.5)
+    clients[1].get("/none")
+    busy = (spent_by(node) - spent) / (time.monotonic() - start)
+    tally.told.append(f"{part}: without a descriptor a node with waiting connections uses {busy:.2f} of a processor")
+    for client in clients[:LEAVING]:
+        client.socket.close()
+    found = [client.answer() for client in clients[LEAVING:]]
+    tally.case("the others once these have left", [it and it.status for it in found], [404] * (CLIENTS - LEAVING))
+    for client in clients[LEAVING:]:
+        client.socket.close()
+    tally.case("a new client", comes_in(node), True)
+    tally.case("the node", node.process.poll(), None)
 
 
 def hoard(tally, at):

@@ -57,12 +57,12 @@ class Replica(Node):
             settle(self)
 
 
-def settle(node):
-    """Waits until a new replica has all its places; whether it has them at once is a case of its own."""
+def settle(node, places=REPLICA_PLACES):
+    """Waits until a new replica has all its places, or so many; whether it has them at once is a case of its own."""
     end = time.monotonic() + SECONDS_MAX / 8
     while time.monotonic() < end:
         with contextlib.ExitStack() as stack, contextlib.suppress(Malformed):
-            clients = [stack.enter_context(Client(node.http)) for _ in range(REPLICA_PLACES)]
+            clients = [stack.enter_context(Client(node.http)) for _ in range(places)]
             answers = [client.get("/none") for client in clients]
             if all(it and it.status == 404 for it in answers):
                 break

@@ -13,9 +13,10 @@ from http_cases import BODY_MAX, PAGE_FIELDS, allowed, fault_of, refused
 from http_client import PLAIN, UNCACHED, Answer, Client, Malformed, all_answers, exchanged, get, head, request, request_in_chunks
 from http_client import shown, text
 from http_figures import figures, status_of
-from http_hostile import HOST, OTHERS_SECONDS, REQUEST_SECONDS, answers_to, attempt, batches, changed, deaf_client
-from http_hostile import goes_on, idle_behind_answer, idle_client, is_about, padded, slow_client, slow_crowd, slow_head, slowly
-from http_nodes import ANY_PORT, REPLICA_PLACES, SETTINGS, Pair, Primary, Replica, as_json, batch, insert_of, job
+from http_hostile import FEW_DESCRIPTORS, HOST, INSIDE, OTHERS_SECONDS, REQUEST_SECONDS, answers_to, attempt, batches, changed
+from http_hostile import deaf_client, goes_on, idle_behind_answer, idle_client, is_about, padded, slow_client, slow_crowd, slow_head
+from http_hostile import slowly, without_descriptors
+from http_nodes import ANY_PORT, REPLICA_PLACES, SETTINGS, Pair, Primary, Replica, as_json, batch, insert_of, job, settle
 from http_replica_load import COUNT, JSON_WANTED, TEXT, drawn_query, end_under_load, in_json, input_beside, kills, lone_status
 from http_replica_load import many_at_once, primary_away, report, shown_json, turns_used_up, wrong_words
 
@@ -424,8 +425,7 @@ def crowd(tally, at):
         clients[0].socket.close()
         with soon_in(pair.replica) as next_one:
             tally.case("the next one, once one has left", shown(next_one.ask(batch(next_one.address, [COUNT]))), pair.expected(COUNT))
-            found = figures(next_one)[1]["batchdb_http_refused_total", None, None]
-            tally.case("how many were told that there is no place", found >= 1, True)
+            tally.case("how many were told that there is no place", refused_by(next_one) >= 1, True)
         for client in clients:
             client.socket.close()
 
@@ -441,6 +441,26 @@ def soon_in(node):
                 return client
         client.socket.close()
     raise TimeoutError("no place")
+
+
+def descriptors(tally, at):
+    """A replica with few descriptors: those for which there is none wait, and are not told that there is no place."""
+    with Pair(at, "few descriptors", is_fresh=True, limit=FEW_DESCRIPTORS) as pair:
+        settle(pair.replica, INSIDE)
+
+        def begin():
+            pair.commit(insert_of(1, 1, 100))
+            return batch(pair.replica.http, [COUNT]), pair.expected(COUNT)
+
+        with Client(pair.replica.http) as client:
+            before = refused_by(client)
+        without_descriptors(tally, "replica", pair.replica, begin)
+        with Client(pair.replica.http) as client:
+            tally.case("how many were told that there is no place", refused_by(client) - before, 0)
+
+
+def refused_by(client):
+    return figures(client)[1]["batchdb_http_refused_total", None, None]
 
 
 def fresh_nodes(tally, at):
@@ -527,7 +547,7 @@ def replica(at):
     with concurrent.futures.ThreadPoolExecutor() as pool:
         slow = pool.submit(slow_ones, at)
         for case in (one_replica, status_and_figures, idle_replica, many_at_once, input_beside, primary_away, kills, turns_used_up,
-                     end_under_load, wrong_words, crowd, fresh_nodes):
+                     end_under_load, wrong_words, crowd, descriptors, fresh_nodes):
             attempt(tally, case, at)
         tally.add(slow.result())
     return tally
