@@ -20,6 +20,9 @@ ACCOUNTS, BALANCE = 24, 1000
 BODIES_MAX = 20_000
 # Of a client that is refused, in seconds.
 SHORTEST_WAIT, LONGEST_WAIT = 0.002, 0.5
+# Of clients that are to be in conflict with standard input: the rounds at most, the jobs of standard input in each, and how many conflicts
+# are enough.
+ROUNDS_MAX, TYPED_JOBS, CONFLICTS_WANTED = 50, 200, 10
 FILE_TOO_LARGE, NO_SPACE = "File too large (os error 27)", "No space left on device (os error 28)"
 
 
@@ -114,9 +117,9 @@ def adding(address, number, told, times):
         wait = max(SHORTEST_WAIT, wait / 2) if is_done else min(2 * wait, LONGEST_WAIT)
 
 
-def makes_row(node, told):
+def makes_row(node, told, row=1):
     """The row that all clients change is made."""
-    text = job(0, insert_of(1))
+    text = job(0, insert_of(row))
     told.begins(text)
     with Client(node.http) as client:
         told.answered(text, client.post(text))
@@ -307,7 +310,47 @@ def beside(at):
         rows_are_there(tally, node, commits)
         still_there(tally, node, Rows(commits).rows["acct", "1"][0])
     tally.outcomes.update(told.counts)
+    in_conflict(tally, at)
     return tally
+
+
+def in_conflict(tally, at):
+    """Jobs of standard input set two rows, and clients one of them, without conditions: nobody is refused, and who is in conflict is told
+    a commit of that row. Whether a client is in conflict rests on what meets, so there are rounds until some are, or so many rounds."""
+    told, rounds = Told(), 0
+    with Primary(at, journal="conflicts", stdin=subprocess.PIPE) as node:
+        makes_row(node, told)
+        makes_row(node, told, 2)
+        while rounds < ROUNDS_MAX and told.counts["conflict"] < CONFLICTS_WANTED:
+            typed = [job(number % 2, f"set acct {1 + number % 3 % 2} 1 {number}") for number in range(TYPED_JOBS)]
+            writer = threading.Thread(target=node.send, args=("".join(typed),))
+            clients = [setting(node.http, number, told, 10) for number in range(16)]
+            drive(node.http, [*clients, beginning(node.http, writer)])
+            writer.join()
+            typed_settings(tally, node, typed, told, rounds * len(typed))
+            rounds += 1
+        commits = node.commits()
+        told.check(tally, "conflicts", commits)
+        numbers = sorted(number for number, _ in told.tickets)
+        tally.case("conflicts: tickets without a gap, none twice", numbers, list(range(1, len(commits) + 1)))
+        tally.case("conflicts: refused jobs of clients", told.counts["refused"], 0)
+        with Client(node.http) as client:
+            found = client.get("/tables/acct/1").body.decode()
+        tally.case("conflicts: the row", found, f"version {len(commits)}\n" + Rows(commits).line("acct", 1))
+    tally.outcomes["jobs of clients in conflict"] += told.counts["conflict"]
+    tally.told.append(f"beside: {told.counts['conflict']} jobs of clients in conflict, in {rounds} rounds of {TYPED_JOBS} jobs beside them")
+
+
+def typed_settings(tally, node, typed, told, first):
+    """What jobs of standard input were answered, of which the first has this number: tickets, and conflicts."""
+    lines = [re.fullmatch(r"job (\d+) (ticket|conflict) ([1-9]\d*)", line) for line in node.lines(len(typed))]
+    numbers = sorted(int(it[1]) for it in lines if it)
+    tally.case("conflicts: the jobs of standard input", numbers, list(range(first, first + len(typed))))
+    for it in filter(None, lines):
+        text = typed[int(it[1]) - first]
+        told.begins(text)
+        noted = told.tickets if it[2] == "ticket" else told.conflicts
+        noted += [(int(it[3]), commit) for commit in jobs_in(text)]
 
 
 def typed_answers(tally, node, typed, told):
