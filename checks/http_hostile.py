@@ -513,6 +513,21 @@ def idle_behind_answer(tally, node):
     tally.case("a connection without a request behind one", (is_about(seconds, IDLE_SECONDS), came), (True, b""))
 
 
+def begun_behind_request(tally, node):
+    """The time of a request whose first byte came with the end of another begins with the next bytes; until then there is no request."""
+    with Client(node.http) as silent, Client(node.http) as slow:
+        start = time.monotonic()
+        for client in (silent, slow):
+            tally.case("a request with the first byte of another", client.ask(get(node.http, "/none") + b"G").status, 404)
+        time.sleep(5)
+        slow.send(b"E")
+        seconds, came = seconds_until_end(slow.socket, REQUEST_SECONDS + 2 * LATE)
+        tally.case("the other one, of which more came", (is_about(seconds, REQUEST_SECONDS), came), (True, b""))
+        seconds, came = seconds_until_end(silent.socket, IDLE_SECONDS + 2 * LATE)
+        found = is_about(time.monotonic() - start, IDLE_SECONDS), seconds is not None, came
+        tally.case("the other one, of which nothing more came", found, (True, True, b""))
+
+
 def slow_within_limit(tally, node):
     """A request that takes eight seconds is answered."""
     data = post(node.http, job(0, insert_of(2)))
@@ -592,7 +607,7 @@ def waits(at):
     """Limits of time, each tried once, all beside each other. Others are answered meanwhile."""
     tally, slowest, is_done = Tally(), [], threading.Event()
     write(f"{at}/schema", SETTINGS)
-    tried = (slow_head, slow_body, idle_client, idle_behind_answer, slow_within_limit, deaf_client, jobs_of_the_deaf)
+    tried = (slow_head, slow_body, idle_client, idle_behind_answer, begun_behind_request, slow_within_limit, deaf_client, jobs_of_the_deaf)
     with Primary(at) as node, Primary(at, journal="crowded") as crowded:
         threads = [threading.Thread(target=attempt, args=(tally, it, node)) for it in tried]
         threads.append(threading.Thread(target=attempt, args=(tally, slow_crowd, crowded)))

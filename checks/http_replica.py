@@ -13,9 +13,9 @@ from http_cases import BODY_MAX, PAGE_FIELDS, allowed, fault_of, refused
 from http_client import PLAIN, UNCACHED, Answer, Client, Malformed, all_answers, exchanged, get, head, request, request_in_chunks
 from http_client import shown, text
 from http_figures import figures, status_of
-from http_hostile import FEW_DESCRIPTORS, HOST, INSIDE, OTHERS_SECONDS, REQUEST_SECONDS, answers_to, attempt, batches, changed
-from http_hostile import deaf_client, goes_on, idle_behind_answer, idle_client, is_about, padded, slow_client, slow_crowd, slow_head
-from http_hostile import slowly, without_descriptors
+from http_hostile import FEW_DESCRIPTORS, HOST, INSIDE, OTHERS_SECONDS, REQUEST_SECONDS, answers_to, attempt, batches
+from http_hostile import begun_behind_request, changed, deaf_client, goes_on, idle_behind_answer, idle_client, is_about, padded
+from http_hostile import slow_client, slow_crowd, slow_head, slowly, without_descriptors
 from http_nodes import ANY_PORT, REPLICA_PLACES, SETTINGS, Pair, Primary, Replica, as_json, batch, insert_of, job, settle
 from http_replica_load import COUNT, JSON_WANTED, TEXT, drawn_query, end_under_load, in_json, input_beside, kills, lone_status
 from http_replica_load import many_at_once, primary_away, report, shown_json, turns_used_up, wrong_words
@@ -508,7 +508,7 @@ def slow_ones(at):
     tally, is_done, answers = Tally(), threading.Event(), []
     tried = [slow_head, slow_batch, slow_batch_within_limit]
     if not WORDS.few:
-        tried += [idle_client, idle_behind_answer, deaf_client]
+        tried += [idle_client, idle_behind_answer, begun_behind_request, deaf_client]
     with Pair(at, "slow") as pair, Pair(at, "slow crowd") as crowded:
         threads = [threading.Thread(target=attempt, args=(tally, it, pair.replica)) for it in tried]
         threads.append(threading.Thread(target=slow_crowd, args=(tally, crowded.replica, PLACES)))
