@@ -13,12 +13,12 @@ from http_cases import BODY_MAX, PAGE_FIELDS, allowed, fault_of, refused
 from http_client import PLAIN, UNCACHED, Answer, Client, Malformed, all_answers, exchanged, get, head, request, request_in_chunks
 from http_client import shown, text
 from http_figures import figures, status_of
-from http_hostile import FEW_DESCRIPTORS, HOST, INSIDE, OTHERS_SECONDS, REQUEST_SECONDS, answers_to, attempt, batches
+from http_hostile import FEW_DESCRIPTORS, HOST, IDLE_SECONDS, INSIDE, OTHERS_SECONDS, REQUEST_SECONDS, answers_to, attempt, batches
 from http_hostile import begun_behind_request, changed, deaf_client, goes_on, idle_behind_answer, idle_client, is_about, padded
 from http_hostile import slow_client, slow_crowd, slow_head, slowly, without_descriptors
-from http_nodes import ANY_PORT, REPLICA_PLACES, SETTINGS, Pair, Primary, Replica, as_json, batch, insert_of, job, settle
+from http_nodes import ANY_PORT, REPLICA_PLACES, SETTINGS, Pair, Primary, Replica, as_json, batch, insert_of, job
 from http_replica_load import COUNT, JSON_WANTED, TEXT, drawn_query, end_under_load, in_json, input_beside, kills, lone_status
-from http_replica_load import many_at_once, primary_away, report, shown_json, turns_used_up, wrong_words
+from http_replica_load import many_at_once, primary_away, report, shown_json, stopped, turns_used_up, wrong_words
 
 QUERIES_MAX, PLACES = 64, REPLICA_PLACES
 # The accounts and the sites of the examples in FORMATS, and what is answered there.
@@ -496,6 +496,17 @@ def slow_batch_within_limit(tally, node):
         tally.case("a batch that takes eight seconds", shown(client.ask(data[16:])), text(200, report(0, [["0"]])))
 
 
+def long_batch(tally, at):
+    """A batch takes longer than a connection may be without a request. What was sent behind it is answered too."""
+    with Pair(at, "long batch") as pair, Client(pair.replica.http) as client:
+        with stopped(pair.primary):
+            client.send(batch(client.address, [COUNT]))
+            time.sleep(IDLE_SECONDS + 2)
+            client.send(batch(client.address, [COUNT]))
+        tally.case("a long batch, and one behind it", [shown(client.answer()) for _ in range(2)], [pair.expected(COUNT)] * 2)
+        tally.case("a batch behind these", shown(client.ask(batch(client.address, [COUNT]))), pair.expected(COUNT))
+
+
 def asking(pair, is_done, answers):
     """Another client, which comes anew and again, and sends a batch."""
     while not is_done.wait(0.25):
@@ -512,6 +523,8 @@ def slow_ones(at):
     with Pair(at, "slow") as pair, Pair(at, "slow crowd") as crowded:
         threads = [threading.Thread(target=attempt, args=(tally, it, pair.replica)) for it in tried]
         threads.append(threading.Thread(target=slow_crowd, args=(tally, crowded.replica, PLACES)))
+        if not WORDS.few:
+            threads.append(threading.Thread(target=attempt, args=(tally, long_batch, at)))
         other = threading.Thread(target=asking, args=(pair, is_done, answers))
         for it in (*threads, other):
             it.start()

@@ -115,6 +115,73 @@ fn goes_on_at(alloc: Global, keys: RandomState, input: &[u8], now: u64) -> bool 
     visits.step(&mut guest, &mut socket, now)
 }
 
+/// The times of the steps of a connection, the last of which ends it. The first one reads a request, whose answer takes longer
+/// than a connection may wait.
+const LONG_CALLS: [(Trouble, &[u64]); 3] = [
+    // The answer is sent, and then no request comes.
+    (Trouble::None, &[0, 40_000, 70_000, 70_001]),
+    // The socket does not take it at once, and then none comes.
+    (Trouble::Waits, &[0, 40_000, 70_000, 100_000, 100_001]),
+    // The socket fails.
+    (Trouble::Fails, &[0, 40_000]),
+];
+
+/// A service may take longer than a connection may wait: that begins once it has answered.
+#[test]
+fn visits_wait_from_when_a_request_was_answered(rt: HostRuntime) -> Result<(), Fail> {
+    let keys = RandomState::new(&rt)?;
+    let request = b"GET / HTTP/1.1\r\nHost: localhost\r\n\r\n";
+    for (trouble, times) in LONG_CALLS {
+        let habits = Habits {
+            trouble,
+            calls_before: 1,
+            ..PLAIN
+        };
+        let steps = steps_at(rt.alloc(), keys, request, habits, times);
+        assert_eq!(rt; steps, times.len() as u64, "{trouble:?} {times:?}");
+    }
+    Ok(())
+}
+
+/// How many steps a connection is given at these times, up to the one that ends it.
+fn steps_at(alloc: Global, keys: RandomState, input: &[u8], habits: Habits, times: &[u64]) -> u64 {
+    let mut visits = Visits::new(alloc, keys, Limits::of(1), Echo::new());
+    let mut socket = MemorySocket::new(alloc, input, habits);
+    let mut guest = visits.begin(0);
+    let mut steps: u64 = 0;
+    let mut goes_on = true;
+    for time in times {
+        if goes_on {
+            goes_on = visits.step(&mut guest, &mut socket, *time);
+            steps = steps.saturating_add(1);
+        }
+    }
+    if goes_on { u64::MAX } else { steps }
+}
+
+/// Requests that come one behind the other, each of which takes longer to be answered than a connection may wait.
+#[test]
+fn visits_answer_what_came_behind_a_long_call(rt: HostRuntime) -> Result<(), Fail> {
+    let keys = RandomState::new(&rt)?;
+    let input =
+        b"GET /a HTTP/1.1\r\nHost: localhost\r\n\r\nGET /b HTTP/1.1\r\nHost: localhost\r\n\r\n";
+    let habits = Habits {
+        piece: input.len() / 2,
+        ..PLAIN
+    };
+    let mut visits = Visits::new(rt.alloc(), keys, Limits::of(1), Echo::new());
+    let mut socket = MemorySocket::new(rt.alloc(), input, habits);
+    let mut guest = visits.begin(0);
+    for time in [0, 40_000, 80_000] {
+        assert!(rt; visits.step(&mut guest, &mut socket, time), "at {time}");
+    }
+    assert_eq!(rt; visits.service().answered, 2);
+    let answer = b"HTTP/1.1 200 OK\r\ncontent-length: 0\r\n\r\n";
+    assert_eq!(rt; &socket.sent()[..answer.len()], answer.as_slice());
+    assert_eq!(rt; &socket.sent()[answer.len()..], answer.as_slice());
+    Ok(())
+}
+
 /// A denied request, and one that asks to close.
 #[test]
 fn visits_deny_and_close(rt: HostRuntime) -> Result<(), Fail> {

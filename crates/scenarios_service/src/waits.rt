@@ -69,6 +69,25 @@ fn an_answer_that_nobody_reads_is_awaited_for_its_time(rt: HostRuntime) -> Resul
     Ok(())
 }
 
+/// A round may take longer than a connection may wait: that begins with the next one.
+#[test]
+fn connections_wait_from_when_a_round_has_ended(rt: HostRuntime) -> Result<(), Fail> {
+    let keys = RandomState::new(&rt)?;
+    let input = b"GET / HTTP/1.1\r\nHost: localhost\r\n\r\n";
+    for (now, expected) in [(70_000, 1), (70_001, 0)] {
+        let mut rounds = Rounds::new(rt.alloc(), keys, Limits::of(1), Echo::new());
+        let _ = rounds.free_place()?;
+        rounds.seat(0, MemorySocket::new(rt.alloc(), input, PLAIN), 0);
+        let _ = rounds.round(0, &mut NoArrivals);
+        let _ = rounds.round(40_000, &mut NoArrivals);
+        rounds.clear(40_000);
+        assert_eq!(rt; rounds.connections(), 1, "at 40_000");
+        rounds.clear(now);
+        assert_eq!(rt; rounds.connections(), expected, "at {now}");
+    }
+    Ok(())
+}
+
 #[test]
 fn there_are_no_more_connections_than_places(rt: HostRuntime) -> Result<(), Fail> {
     let keys = RandomState::new(&rt)?;

@@ -1,10 +1,10 @@
 //! A connection whose answers wait for the end of the round.
 
-ghost use Rattle.std.specs.Prelude.{◌≡◌};
+ghost use Rattle.std.specs.Prelude.{◌≡◌, Some, length, nat_lt, unwrap_or};
 ghost use Rattle.http_server.specs.Connection.{history};
 ghost use Rattle.http_server.specs.Exchange.{Calls};
 ghost use Rattle.service.specs.Denials.{WithDenials};
-ghost use Rattle.service.specs.Waits.{is_late, has_passed};
+ghost use Rattle.service.specs.Waits.{is_late, has_passed, since_answered, IsTold};
 
 use crate::held::Held;
 use crate::limits::Limits;
@@ -52,22 +52,24 @@ pub(crate) enum Told {
 /// and may lose the answer.
 #[derive(Clone, Copy, PartialEq, Eq, Debug)]
 pub(crate) struct Leaving {
-    /// When its last answer was sent.
-    pub(crate) since: u64,
+    /// When its last answer was sent; `None` until that time is noted.
+    pub(crate) since: Option<u64>,
     /// How many bytes are still read, at most.
     pub(crate) left: usize,
 }
 
 /// A connection, and how long it waits for what. Times are milliseconds since any one moment.
+///
+/// Answering may take longer than a connection may wait. So what begins once requests are answered has no time until
+/// `note_time` gives it one.
 #[derive(Drop)]
 pub struct Guest {
     pub(crate) connection: Connection,
-    /// When its last whole request was answered, or when it came.
-    pub(crate) since: u64,
+    /// When it came, an answer began to wait, or its socket last took bytes of one: whichever was last. `None` until
+    /// that time is noted.
+    pub(crate) since: Option<u64>,
     /// When the first byte of a request came that is not whole yet.
     pub(crate) begun: Option<u64>,
-    /// When its socket last took bytes of an answer, or an answer began to wait.
-    pub(crate) told: u64,
     /// How many bytes came since its last whole request, and how many these were at most.
     pub(crate) unanswered: usize,
     pub(crate) most: usize,
@@ -89,9 +91,8 @@ impl Guest {
     pub fn new(alloc: Global, keys: RandomState, config: Config, now: u64) -> Guest {
         Guest {
             connection: Connection::new(alloc, keys, config),
-            since: now,
+            since: Some(now),
             begun: None,
-            told: now,
             unanswered: 0,
             most: 0,
             leaving: None,
@@ -180,21 +181,20 @@ impl Guest {
         ensures unsent { (history self.new.connection).sent ≡ (history self.old.connection).sent }
         ensures calls { Calls (WithDenials S.answers) service.old.inner service.new.inner
             (history self.old.connection).calls (history self.new.connection).calls }
+        ensures since { self.new.since ≡ since_answered (nat_lt 0 (length (history self.old.connection).pending))
+            (history self.new.connection).pending self.old.since }
     {
         let calls = service.calls;
-        let told = if self.connection.wants_write() {
-            self.told
-        } else {
-            now
-        };
+        let waited = self.connection.wants_write();
         self.note_read(came, now);
         self.connection.advance(service);
-        self.note_answered(service.calls.saturating_sub(calls), told, now);
+        self.note_answered(service.calls.saturating_sub(calls), waited);
     }
 
     /// Notes that so many bytes came.
     fn note_read(&mut self, came: usize, now: u64)
-        ensures { (history self.new.connection) ≡ (history self.old.connection) }
+        ensures connection { (history self.new.connection) ≡ (history self.old.connection) }
+        ensures since { self.new.since ≡ self.old.since }
     {
         if came > 0 {
             self.begun = Some(self.begun.unwrap_or(now));
@@ -203,24 +203,39 @@ impl Guest {
         }
     }
 
-    /// Notes how many requests were answered, and when answers were last taken or began to wait.
-    fn note_answered(&mut self, answered: u64, told: u64, now: u64)
-        ensures { (history self.new.connection) ≡ (history self.old.connection) }
+    /// Notes how many requests were answered, and whether answers waited before.
+    fn note_answered(&mut self, answered: u64, waited: bool)
+        ensures connection { (history self.new.connection) ≡ (history self.old.connection) }
+        ensures since { self.new.since ≡ since_answered waited (history self.new.connection).pending self.old.since }
     {
-        self.told = told;
+        if !waited && self.connection.wants_write() {
+            self.since = None;
+        }
         if answered > 0 {
-            self.since = now;
             self.begun = None;
             self.unanswered = 0;
+        }
+    }
+
+    /// Notes the time of what was answered or sent since a time was last noted.
+    pub(crate) fn note_time(&mut self, now: u64)
+        ensures connection { self.new.connection ≡ self.old.connection }
+        ensures since { self.new.since ≡ Some (unwrap_or self.old.since now) }
+        ensures begun { self.new.begun ≡ self.old.begun }
+    {
+        self.since = Some(self.since.unwrap_or(now));
+        if let Some(leaving) = &mut self.leaving {
+            leaving.since = Some(leaving.since.unwrap_or(now));
         }
     }
 
     /// Sends what waits, as far as it is taken.
     pub(crate) fn tell<W: Write>(&mut self, writer: &mut W, now: u64) -> Told
         ensures calls { (history self.new.connection).calls ≡ (history self.old.connection).calls }
+        ensures since { IsTold self.old self.new }
     {
         let could_read = self.connection.wants_read();
-        let told = self.write(writer, now);
+        let told = self.write(writer);
         // The time of a request does not run while its connection is not read.
         if !could_read && self.begun.is_some() {
             self.begun = Some(now);
@@ -228,16 +243,21 @@ impl Guest {
         told
     }
 
-    fn write<W: Write>(&mut self, writer: &mut W, now: u64) -> Told
+    fn write<W: Write>(&mut self, writer: &mut W) -> Told
         ensures calls { (history self.new.connection).calls ≡ (history self.old.connection).calls }
+        ensures since { IsTold self.old self.new }
     {
         for _ in 0..WRITES_MAX {
             if !self.connection.wants_write() {
                 return Told::All;
             }
             match self.connection.write_to(writer) {
-                Ok(0) => return Told::Failed,
-                Ok(_) => self.told = now,
+                Ok(count) => {
+                    self.since = None;
+                    if count == 0 {
+                        return Told::Failed;
+                    }
+                }
                 Err(error) => return told_of(&error),
             }
         }
@@ -245,7 +265,7 @@ impl Guest {
     }
 
     /// Ends the writing, once all was sent, unless nothing more can come of this client.
-    pub(crate) fn leave<T: Socket>(&mut self, socket: &mut T, now: u64)
+    pub(crate) fn leave<T: Socket>(&mut self, socket: &mut T)
         ensures { (history self.new.connection) ≡ (history self.old.connection) }
     {
         let is_answered = match self.connection.state() {
@@ -257,7 +277,7 @@ impl Guest {
             return;
         }
         self.leaving = Some(Leaving {
-            since: now,
+            since: None,
             left: LEAVING_BYTES,
         });
         self.is_ready = true;
@@ -304,20 +324,23 @@ impl Guest {
             return has_passed(limits.leaving_millis, leaving.since, now);
         }
         if self.connection.wants_write() {
-            return has_passed(limits.answer_millis, self.told, now);
+            return has_passed(limits.answer_millis, self.since, now);
         }
         match self.begun {
-            Some(begun) => has_passed(limits.request_millis, begun, now),
+            Some(begun) => has_passed(limits.request_millis, Some(begun), now),
             None => has_passed(limits.idle_millis, self.since, now),
         }
     }
 }
 
-/// Whether more than so much time has passed.
-fn has_passed(limit: u64, since: u64, now: u64) -> bool
+/// Whether more than so much time has passed. It has not if no time is noted yet.
+fn has_passed(limit: u64, since: Option<u64>, now: u64) -> bool
     ensures { result ≡ has_passed limit since now }
 {
-    now.saturating_sub(since) > limit
+    match since {
+        Some(since) => now.saturating_sub(since) > limit,
+        None => false,
+    }
 }
 
 /// What an error of a read says.

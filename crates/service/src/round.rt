@@ -20,7 +20,8 @@ pub struct Unsettled;
 
 /// Hears each connection that may have something, then those that have something by now, has the round
 /// settled, and sends. Whether any was heard. From so many bytes on that are held in all, only the
-/// connection whose request began first is read.
+/// connection whose request began first is read. A round may take long: what it answers and sends has the
+/// time of the next one.
 pub(crate) fn round<S: Settle + Drop, T: Socket, A: Arrivals>(
     guests: &mut [Option<Guest>],
     sockets: &mut [Option<T>],
@@ -33,6 +34,7 @@ pub(crate) fn round<S: Settle + Drop, T: Socket, A: Arrivals>(
         (HasEnded (WithDenials S.answers) S.settles service.old.inner service.new.inner guests.old guests.new)
         (λ _. IsLost (WithDenials S.answers) S.settles service.old.inner service.new.inner guests.old guests.new) }
 {
+    note_times(guests, now);
     if !hear(guests, sockets, service, now, held_max, arrivals) {
         return Ok(false);
     }
@@ -41,6 +43,23 @@ pub(crate) fn round<S: Settle + Drop, T: Socket, A: Arrivals>(
     }
     tell_all(guests, sockets, now);
     Ok(true)
+}
+
+/// Notes the time of what the round before answered or sent, at each connection.
+fn note_times(guests: &mut [Option<Guest>], now: u64)
+    ensures { IsUnsent guests.old guests.new }
+{
+    for index in 0..guests.len() {
+        note_time_at(&mut guests[index], now);
+    }
+}
+
+fn note_time_at(place: &mut Option<Guest>, now: u64)
+    ensures { sent_at place.new ≡ sent_at place.old }
+{
+    if let Some(guest) = place {
+        guest.note_time(now);
+    }
 }
 
 /// Hears each connection that may have something, and then those that have something by now, each once, so
@@ -169,7 +188,7 @@ fn tell_at<T: Socket>(place: &mut Option<Guest>, socket: &mut Option<T>, now: u6
         Told::More => guest.is_ready = true,
         Told::All => {
             if guest.connection.is_done() {
-                guest.leave(socket, now);
+                guest.leave(socket);
             }
         }
     }

@@ -56,12 +56,16 @@ impl<S: Service + Drop> Visits<S> {
     /// or its socket has failed.
     ///
     /// The socket waits in its calls, but not for long: then it gives `WouldBlock`, and the next step
-    /// looks at the time.
+    /// looks at the time. The service may take long: a connection waits from the step on that follows its answer.
     pub fn step<T: Socket>(&mut self, guest: &mut Guest, socket: &mut T, now: u64) -> bool
         ensures { Calls (WithDenials S.answers) (visited_of self.old) (visited_of self.new)
             (history guest.old.connection).calls (history guest.new.connection).calls }
     {
-        if !tell(guest, socket, now) || guest.is_late(&self.limits, now) {
+        if !tell(guest, socket, now) {
+            return false;
+        }
+        guest.note_time(now);
+        if guest.is_late(&self.limits, now) {
             return false;
         }
         if guest.leaving.is_some() {
@@ -129,7 +133,7 @@ fn tell<T: Socket>(guest: &mut Guest, socket: &mut T, now: u64) -> bool
         Told::More => true,
         Told::All => {
             if guest.connection.is_done() {
-                guest.leave(socket, now);
+                guest.leave(socket);
             }
             !guest.is_gone
         }

@@ -11,6 +11,7 @@ returns-clause-calls g c =
     let answers = WithDenials g.S.Settle.answers in
     let old = c.args.service.now.inner in
     let new = c.advance.new.service.inner in
-    subst (λ (h : History). Calls answers old new h.calls (history c.note_answered.new.self.connection).calls) c.note_read.ensures
+    subst (λ (h : History). Calls answers old new h.calls (history c.note_answered.new.self.connection).calls)
+    c.note_read.ensures.connection
     (subst (λ (h : History). Calls answers old new (history c.note_read.new.self.connection).calls h.calls)
-    (sym c.note_answered.ensures) (Calls-inner answers _ _ _ _ c.advance.ensures.calls))
+    (sym c.note_answered.ensures.connection) (Calls-inner answers _ _ _ _ c.advance.ensures.calls))
