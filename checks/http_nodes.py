@@ -10,8 +10,8 @@ import subprocess
 import time
 
 import reference as own
-from harness import SECONDS_MAX, Node, commits_of, free_address, run
-from http_client import Client, Malformed, request, text
+from harness import Node, commits_of, free_address, run
+from http_client import Client, request, text
 
 SETTINGS = "workers 2\nreplicas 2\ntable acct int int\ntable site bytes2\n"
 ANY_PORT = "127.0.0.1:0"
@@ -48,27 +48,11 @@ class Replica(Node):
 
     boots = itertools.count(int(time.time()))
 
-    def __init__(self, at, listen, primary, *more_words, turns="0", http=ANY_PORT, is_fresh=False, **more):
+    def __init__(self, at, listen, primary, *more_words, turns="0", http=ANY_PORT, **more):
         self.schema, self.boot = f"{at}/schema", next(Replica.boots)
         words = ["replica", self.schema, "0", str(self.boot), listen, primary, "--turns", turns, "--live", "--http", http, "--say"]
         super().__init__(*words, *more_words, **{"stdin": subprocess.DEVNULL, "seconds": SECONDS_OF_A_NODE, **more})
         self.http = http_of(self)
-        if not is_fresh:
-            settle(self)
-
-
-def settle(node, places=REPLICA_PLACES):
-    """Waits until a new replica has all its places, or so many; whether it has them at once is a case of its own."""
-    end = time.monotonic() + SECONDS_MAX / 8
-    while time.monotonic() < end:
-        with contextlib.ExitStack() as stack, contextlib.suppress(Malformed):
-            clients = [stack.enter_context(Client(node.http)) for _ in range(places)]
-            answers = [client.get("/none") for client in clients]
-            if all(it and it.status == 404 for it in answers):
-                break
-    with Client(node.http) as client:
-        while b'"connections":1,' not in client.get("/status").body and time.monotonic() < end:
-            time.sleep(0.005)
 
 
 def http_of(node):

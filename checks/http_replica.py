@@ -13,7 +13,7 @@ from http_cases import BODY_MAX, PAGE_FIELDS, allowed, fault_of, refused
 from http_client import PLAIN, UNCACHED, Answer, Client, Malformed, all_answers, exchanged, get, head, request, request_in_chunks
 from http_client import shown, text
 from http_figures import figures, status_of
-from http_hostile import FEW_DESCRIPTORS, HOST, IDLE_SECONDS, INSIDE, OTHERS_SECONDS, REQUEST_SECONDS, answers_to, attempt, batches
+from http_hostile import FEW_DESCRIPTORS, HOST, IDLE_SECONDS, OTHERS_SECONDS, REQUEST_SECONDS, answers_to, attempt, batches
 from http_hostile import begun_behind_request, changed, deaf_client, goes_on, idle_behind_answer, idle_client, is_about, padded
 from http_hostile import slow_client, slow_crowd, slow_head, slowly, without_descriptors
 from http_nodes import ANY_PORT, REPLICA_PLACES, SETTINGS, Pair, Primary, Replica, as_json, batch, insert_of, job
@@ -445,9 +445,7 @@ def soon_in(node):
 
 def descriptors(tally, at):
     """A replica with few descriptors: those for which there is none wait, and are not told that there is no place."""
-    with Pair(at, "few descriptors", is_fresh=True, limit=FEW_DESCRIPTORS) as pair:
-        settle(pair.replica, INSIDE)
-
+    with Pair(at, "few descriptors", limit=FEW_DESCRIPTORS) as pair:
         def begin():
             pair.commit(insert_of(1, 1, 100))
             return batch(pair.replica.http, [COUNT]), pair.expected(COUNT)
@@ -464,20 +462,33 @@ def refused_by(client):
 
 
 def fresh_nodes(tally, at):
-    """A replica that has just begun has its places soon: until then there are too many clients, and it does not tell the date."""
+    """A replica that has just begun has all its places, and again once its clients have left."""
     found = []
     for _ in range(4 if WORDS.few else 12):
-        with Replica(at, ANY_PORT, "127.0.0.1:9", is_fresh=True) as node:
+        with Replica(at, ANY_PORT, "127.0.0.1:9") as node:
             clients = [Client(node.http) for _ in range(PLACES)]
-            found.append([])
-            for client in clients:
-                with contextlib.suppress(Malformed):
-                    found[-1].append(client.get("/none").status)
+            found.append([client.get("/none").status for client in clients])
             for client in clients:
                 client.socket.close()
             with soon_in(node):
                 pass
-    tally.case("64 connections of a new replica: other statuses", {it for each in found for it in each} - {404, 503}, set())
+    tally.case("64 connections of a new replica", found, [[404] * PLACES] * len(found))
+
+
+def places_left(tally, at):
+    """The place of a client is free once its connection has ended."""
+    with Replica(at, ANY_PORT, "127.0.0.1:9") as node:
+        others = [Client(node.http) for _ in range(PLACES - 1)]
+        tally.case("all places but one", [client.get("/none").status for client in others], [404] * (PLACES - 1))
+        found = []
+        for _ in range(50 if WORDS.few else 200):
+            with Client(node.http) as client:
+                client.send(get(node.http, "/none"))
+                client.send_no_more()
+                found.append((shown(client.answer())[:2], client.ends()))
+        tally.case("the last place, one client after another", set(found), {((404, "no such path\n"), True)})
+        for client in others:
+            client.socket.close()
 
 
 # ---- limits of time
@@ -560,7 +571,7 @@ def replica(at):
     with concurrent.futures.ThreadPoolExecutor() as pool:
         slow = pool.submit(slow_ones, at)
         for case in (one_replica, status_and_figures, idle_replica, many_at_once, input_beside, primary_away, kills, turns_used_up,
-                     end_under_load, wrong_words, crowd, descriptors, fresh_nodes):
+                     end_under_load, wrong_words, crowd, descriptors, fresh_nodes, places_left):
             attempt(tally, case, at)
         tally.add(slow.result())
     return tally

@@ -24,7 +24,7 @@ WRITERS = 6
 TEXT, JSON_WANTED = (), ("Accept: application/json",)
 COUNT = "query acct get count"
 NO_PLAN = (400, "line 1: no plan")
-LATE_BATCH, FULL_HOUSE = text(503, "late\n"), text(503, "full\n")
+LATE_BATCH = text(503, "late\n")
 
 
 def report(version, answers):
@@ -323,8 +323,7 @@ def end_under_load(tally, at):
         load.run(16, 10_000)
         tally.case("the status at an end under load", pair.replica.process.wait(SECONDS_MAX / 4), 0)
         load.check(tally, "an end under load")
-        # (a replica that has just begun has fewer places)
-        tally.case("an end under load: other answers", set(load.others) <= {LATE_BATCH, FULL_HOUSE} or load.others, True)
+        tally.case("an end under load: other answers", set(load.others) <= {LATE_BATCH} or load.others, True)
     with Pair(at, "faults", turns="100", stdin=subprocess.PIPE) as pair:
         pair.replica.send(f"frobnicate\n\n{COUNT}\n\n")
         tally.case("a batch behind a fault of standard input", pair.replica.lines(3), report(0, [["0"]]).splitlines())

@@ -12,8 +12,8 @@ use std::net::{Net, SocketAddr, TcpStream};
 use std::random::RandomSource;
 use std::rt::Clock;
 use std::sync::Wait;
-use std::sync::atomic::{AtomicBool, AtomicU64, Ordering};
-use std::thread::{Builder, Threads, scope, scope_env, yield_now};
+use std::sync::atomic::{AtomicBool, Ordering};
+use std::thread::{Builder, Threads, scope, scope_env};
 
 /// How many connections there are at once, at most: each has a thread.
 const CONNECTIONS_MAX: usize = 64;
@@ -59,8 +59,6 @@ struct Desk<'a> {
     keys: RandomState,
     facts: &'a ReplicaFacts<'a>,
     gathering: &'a Gathering,
-    /// How many threads are there to serve.
-    ready: AtomicU64,
     is_over: AtomicBool,
 }
 
@@ -84,11 +82,10 @@ pub fn while_serving<T: Threads + Wait + Clock + RandomSource + Sync, A, F: FnOn
         Err(error) => return Err(QueryServingFault::System(error)),
     };
     let desk = Desk {
-        hall: Hall::new(alloc),
+        hall: Hall::new(alloc, CONNECTIONS_MAX),
         keys,
         facts,
         gathering,
-        ready: AtomicU64::new(0),
         is_over: AtomicBool::new(false),
     };
     facts.figures.note_date(seconds_of(rt));
@@ -127,10 +124,9 @@ pub fn while_serving<T: Threads + Wait + Clock + RandomSource + Sync, A, F: FnOn
     )
 }
 
-/// Lets clients in until it is over: once all threads are there to serve, so that nobody is told before that there is no place.
+/// Lets clients in until it is over. All threads are made by then, and each is free until it serves.
 fn hold<T: Wait + Clock>(rt: &T, desk: &Desk<'_>, door: Door) {
     let mut door = door;
-    await_threads(rt, desk);
     for _ in rt.forever() {
         if desk.is_over.load(Ordering::SeqCst) {
             return;
@@ -144,17 +140,6 @@ fn hold<T: Wait + Clock>(rt: &T, desk: &Desk<'_>, door: Door) {
     }
 }
 
-/// Waits until all threads are there to serve, or it is over.
-fn await_threads<T: Wait>(rt: &T, desk: &Desk<'_>) {
-    for _ in rt.forever() {
-        let is_over = desk.is_over.load(Ordering::SeqCst);
-        if is_over || desk.ready.load(Ordering::SeqCst) >= CONNECTIONS_MAX as u64 {
-            return;
-        }
-        yield_now();
-    }
-}
-
 /// Serves one client after the other at a place, until it is over.
 fn serve_at<T: Wait + Clock>(rt: &T, alloc: Global, desk: &Desk<'_>, place: usize) {
     let service = QueryDesk {
@@ -165,7 +150,6 @@ fn serve_at<T: Wait + Clock>(rt: &T, alloc: Global, desk: &Desk<'_>, place: usiz
         facts: desk.facts,
     };
     let mut visits = Visits::new(alloc, desk.keys, Limits::of(CONNECTIONS_MAX), service);
-    desk.ready.fetch_add(1, Ordering::SeqCst);
     for _ in rt.forever() {
         let Some(mut stream) = desk.hall.next(rt) else {
             return;
@@ -173,5 +157,6 @@ fn serve_at<T: Wait + Clock>(rt: &T, alloc: Global, desk: &Desk<'_>, place: usiz
         desk.facts.figures.begin_connection();
         visits.serve(rt, &mut stream, &desk.is_over);
         desk.facts.figures.end_connection();
+        desk.hall.leave(rt);
     }
 }

@@ -10,10 +10,7 @@ use std::rt::Clock;
 use std::sync::Wait;
 use std::sync::atomic::AtomicBool;
 use std::test::Fail;
-use std::thread::{join, yield_now};
-
-/// How often something is tried that needs another thread to wait already.
-const TRIES: u32 = 1_000_000;
+use std::thread::join;
 
 const REQUEST: &[u8] =
     b"POST / HTTP/1.1\r\nHost: 127.0.0.1\r\nContent-Length: 3\r\nConnection: close\r\n\r\nabc";
@@ -22,42 +19,51 @@ const ANSWER: &[u8] = b"HTTP/1.1 200 OK\r\ncontent-length: 3\r\nconnection: clos
 
 #[test]
 fn a_connection_is_handed_to_a_thread_that_is_free(rt: HostRuntime) -> Result<(), Fail> {
-    let hall: Hall<u32> = Hall::new(rt.alloc());
-    assert_eq!(rt; hall.put(&rt, 1), Err(1));
-    let (is_put, taken) = join(&rt, || put_until_taken(&rt, &hall), || hall.next(&rt));
-    assert!(rt; is_put);
-    assert_eq!(rt; taken, Some(2));
-    assert_eq!(rt; hall.put(&rt, 3), Err(3));
+    let hall: Hall<u32> = Hall::new(rt.alloc(), 1);
+    let (put, taken) = join(&rt, || hall.put(&rt, 1), || hall.next(&rt));
+    assert_eq!(rt; put, Ok(()));
+    assert_eq!(rt; taken, Some(1));
+    assert_eq!(rt; hall.put(&rt, 2), Err(2));
+    hall.leave(&rt);
+    assert_eq!(rt; hall.put(&rt, 3), Ok(()));
     hall.end(&rt);
     assert_eq!(rt; hall.next(&rt), None);
     assert_eq!(rt; hall.put(&rt, 4), Err(4));
     Ok(())
 }
 
-/// Puts a number in, once a thread is free. Whether one was.
-fn put_until_taken<R: Wait>(rt: &R, hall: &Hall<u32>) -> bool {
-    for _ in 0..TRIES {
-        if hall.put(rt, 2).is_ok() {
-            return true;
-        }
-        yield_now();
+/// A thread is free before it waits, and as often as it has served: so many are taken as there are threads, and no more.
+#[test]
+fn as_many_are_taken_as_there_are_threads(rt: HostRuntime) -> Result<(), Fail> {
+    let hall: Hall<u32> = Hall::new(rt.alloc(), 3);
+    for number in 0..3 {
+        assert_eq!(rt; hall.put(&rt, number), Ok(()));
     }
-    hall.end(rt);
-    false
+    assert_eq!(rt; hall.put(&rt, 3), Err(3));
+    for number in 0..3 {
+        assert_eq!(rt; hall.next(&rt), Some(number));
+        assert_eq!(rt; hall.put(&rt, 4), Err(4));
+    }
+    hall.leave(&rt);
+    assert_eq!(rt; hall.put(&rt, 5), Ok(()));
+    assert_eq!(rt; hall.put(&rt, 6), Err(6));
+    assert_eq!(rt; hall.next(&rt), Some(5));
+    Ok(())
 }
 
 #[test]
 fn a_door_refuses_while_no_thread_is_free_and_else_hands_on(rt: HostRuntime) -> Result<(), Fail> {
     let keys = RandomState::new(&rt)?;
     let mut door = Door::open(&rt, rt.alloc(), SocketAddr::from((Ipv4Addr::LOCALHOST, 0)))?;
-    let hall = Hall::new(rt.alloc());
-    let refused = answer_at(&rt, rt.alloc(), &mut door, &hall)?;
+    let nobody = Hall::new(rt.alloc(), 0);
+    let refused = answer_at(&rt, rt.alloc(), &mut door, &nobody)?;
     assert_eq!(rt; refused.as_slice(), FULL);
     assert_eq!(rt; door.refused(), 1);
+    let hall = Hall::new(rt.alloc(), 1);
     let over = AtomicBool::new(false);
     let (answer, answered) = join(
         &rt,
-        || answer_of_thread(&rt, rt.alloc(), &mut door, &hall),
+        || last_answer_at(&rt, rt.alloc(), &mut door, &hall),
         || serve_next(&rt, rt.alloc(), keys, &hall, &over),
     );
     let answer = answer?;
@@ -81,23 +87,16 @@ fn answer_at<R: Net + Wait>(
     Ok(answer)
 }
 
-/// The same, until it is not refused.
-fn answer_of_thread<R: Net + Wait>(
+/// The same, and then no more come.
+fn last_answer_at<R: Net + Wait>(
     rt: &R,
     alloc: Global,
     door: &mut Door,
     hall: &Hall<TcpStream>,
 ) -> io::Result<Vec<u8>> {
-    let mut answer = Vec::new(alloc);
-    for _ in 0..1000 {
-        answer = answer_at(rt, alloc, door, hall)?;
-        if answer.as_slice() != FULL {
-            break;
-        }
-        yield_now();
-    }
+    let answer = answer_at(rt, alloc, door, hall);
     hall.end(rt);
-    Ok(answer)
+    answer
 }
 
 /// Serves the next connection to its end. How many requests were answered.

@@ -8,13 +8,14 @@ use std::sync::{Condvar, Mutex, Wait};
 #[derive(Drop)]
 struct Waiting<T: Drop> {
     items: VecDeque<T>,
-    /// How many threads wait for one.
+    /// How many threads have nothing to serve.
     free: usize,
     /// Whether no more come.
     has_ended: bool,
 }
 
-/// Connections that one thread puts in, and others take out: none waits while no thread is free.
+/// Connections that one thread puts in, and others take out. None waits for another to be served: a thread is free as soon as
+/// there is one to be, and again once it has served, so each that is put in is taken at once.
 #[derive(Drop)]
 pub struct Hall<T: Drop> {
     waiting: Mutex<Waiting<T>>,
@@ -22,12 +23,13 @@ pub struct Hall<T: Drop> {
 }
 
 impl<T: Drop> Hall<T> {
-    /// With nobody in it.
-    pub fn new(alloc: Global) -> Hall<T> {
+    /// With nobody in it, and so many threads that are free: each takes one after the other by `next`, and says by `leave` that it
+    /// has served.
+    pub fn new(alloc: Global, threads: usize) -> Hall<T> {
         Hall {
             waiting: Mutex::new(Waiting {
                 items: VecDeque::new(alloc),
-                free: 0,
+                free: threads,
                 has_ended: false,
             }),
             changed: Condvar::new(),
@@ -52,18 +54,24 @@ impl<T: Drop> Hall<T> {
 
     /// Waits for a connection. `None` once no more come.
     pub fn next<R: Wait>(&self, rt: &R) -> Option<T> {
-        let mut waiting = self.waiting.lock(rt);
-        waiting.free = waiting.free.saturating_add(1);
+        let waiting = self.waiting.lock(rt);
         let mut waiting = self.changed.wait_while(
             rt,
             waiting,
             |waiting: &mut Waiting<T>| waiting.items.is_empty() && !waiting.has_ended,
         );
-        waiting.free = waiting.free.saturating_sub(1);
         if waiting.has_ended {
             return None;
         }
+        waiting.free = waiting.free.saturating_sub(1);
         waiting.items.pop_front()
+    }
+
+    /// Says that a thread has served what it took, and is free: before the connection is closed, so that its client finds a place
+    /// again.
+    pub fn leave<R: Wait>(&self, rt: &R) {
+        let mut waiting = self.waiting.lock(rt);
+        waiting.free = waiting.free.saturating_add(1);
     }
 
     /// Says that no more come.
