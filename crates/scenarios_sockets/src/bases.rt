@@ -45,7 +45,7 @@ const STEPS: [Step; 12] = [
 const PUSHED: [u8; 2] = [1, 3];
 
 /// Makes a row with 5 and -1 durable, by worker 0.
-pub fn inserts<L: Origin, R: Wait>(
+fn inserts<L: Origin, R: Wait>(
     rt: &R,
     alloc: Global,
     line: &Line<L, MemJournal, &R>,

@@ -1,5 +1,5 @@
 //! Scenarios of `sockets`, by its public calls: ports that fail at each call in turn, datagrams that no node
-//! sends, what a drain takes, what single turns come to, bases that are taken meanwhile, and images that are fetched.
+//! sends, what a drain takes, what single turns come to, and bases that are taken meanwhile.
 #![tactic(auto)]
 
 #[cfg(test)]
@@ -11,12 +11,8 @@ mod drains;
 #[cfg(test)]
 mod failing_ports;
 #[cfg(test)]
-mod images;
-#[cfg(test)]
 mod nodes;
 #[cfg(test)]
 mod odd_datagrams;
-#[cfg(test)]
-mod relay;
 #[cfg(test)]
 mod turns;

@@ -26,16 +26,6 @@ pub fn put_one<R: Wait>(rt: &R, alloc: Global, queue: &QueryQueue, wish: &Wish<'
     queue.put(rt, &mut pass, plan_of(alloc, wish).ok()?).ok()
 }
 
-/// Offers a node the query that counts and sums.
-pub fn offer_one<S: ApplyStore + Sync, P: Port>(
-    alloc: Global,
-    node: &mut ReplicaNode<S, P>,
-) -> Option<()> {
-    let mut plans = Vec::new(alloc);
-    plans.push(plan_of(alloc, &COUNT_AND_SUM).ok()?).ok()?;
-    node.offer_all(plans).ok()
-}
-
 /// Serves as a replica for so many turns: the report, if there is one, or why the node failed.
 pub fn report_of<S: ApplyStore + Sync, P: Port, R: Threads + Wait + Sync>(
     rt: &R,

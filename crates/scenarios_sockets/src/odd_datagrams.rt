@@ -19,7 +19,7 @@ use wire::{Datagram, Out, Packet, To};
 const GREATEST: usize = 65_507;
 
 /// An address on the loopback whose port the system chooses.
-pub fn any() -> SocketAddr {
+fn any() -> SocketAddr {
     SocketAddr::from((Ipv4Addr::LOCALHOST, 0))
 }
 

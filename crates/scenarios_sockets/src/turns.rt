@@ -2,9 +2,10 @@
 
 use crate::cores::replica_of;
 use crate::failing_ports::deliver;
-use crate::nodes::{REPORT, offer_one};
+use crate::nodes::{COUNT_AND_SUM, REPORT};
 use rows::ByteList;
 use scenarios_common::worker_datagrams::{ASK, FRAME, HEAD_OF_TWO};
+use scenarios_plans_common::wishes::plan_of;
 use sockets::{MemPort, ReplicaNode, Traffic, Turned};
 use std::alloc::Global;
 use std::marker::Sync;
@@ -31,6 +32,13 @@ fn is_report(report: &ByteList) -> u8 {
     }
 }
 
+/// Offers a node the query.
+fn offer(alloc: Global, node: &mut ReplicaNode<PlainStore, MemPort>) -> Option<()> {
+    let mut plans = Vec::new(alloc);
+    plans.push(plan_of(alloc, &COUNT_AND_SUM).ok()?).ok()?;
+    node.offer_all(plans).ok()
+}
+
 /// What four turns of a new node came to, and what it counts: it has no query, and then one; an Ask comes,
 /// and a frame twice; then the Head of its Ask.
 fn four_turns<R: Threads + Sync>(rt: &R, alloc: Global) -> Option<([u8; 4], Traffic, Option<u64>)> {
@@ -40,7 +48,7 @@ fn four_turns<R: Threads + Sync>(rt: &R, alloc: Global) -> Option<([u8; 4], Traf
     deliver(alloc, node.port_mut(), &FRAME)?;
     deliver(alloc, node.port_mut(), &FRAME)?;
     let second = name_of(rt, &mut node);
-    offer_one(alloc, &mut node)?;
+    offer(alloc, &mut node)?;
     let third = name_of(rt, &mut node);
     deliver(alloc, node.port_mut(), &HEAD_OF_TWO)?;
     let fourth = name_of(rt, &mut node);
@@ -120,7 +128,7 @@ fn sent_for_23<R: Threads + Sync>(
     has_sixth: bool,
 ) -> Option<Vec<(u8, u8, u8)>> {
     let mut node = ReplicaNode::new(alloc, replica_of(alloc, 0)?, MemPort::new(alloc));
-    offer_one(alloc, &mut node)?;
+    offer(alloc, &mut node)?;
     let first = name_of(rt, &mut node);
     if has_sixth {
         deliver(alloc, node.port_mut(), &sixth_frame())?;
