@@ -1,9 +1,11 @@
 /*
- * Lets one call on a file or on a socket fail, as a device does, or one for a thread, to show what a program makes of that.
+ * Lets one call on a file or on a socket fail, as a device does, or one for a thread, or makes the syncs of a file slow, to show what a
+ * program makes of that.
  *
  *     LD_PRELOAD=./failing.so FILE=PATH FAILED=7 ERROR=5 PROGRAM            the seventh call on the file fails with EIO
  *     LD_PRELOAD=./failing.so FILE=PATH FAILED=7 ERROR=28 HALF=1 PROGRAM    if it writes, it writes a half, and the next one fails
  *     LD_PRELOAD=./failing.so FILE=PATH GROWN=170 PROGRAM                   a zero is written at byte 170, before the file is locked
+ *     LD_PRELOAD=./failing.so FILE=PATH SLOW=2000 PROGRAM                   each sync of the file takes 2,000 microseconds longer
  *     LD_PRELOAD=./failing.so RECEIVED=7 ERROR=5 PROGRAM                    the seventh receive, or wait for one, fails
  *     LD_PRELOAD=./failing.so SENT=7 ERROR=105 PROGRAM                      the seventh datagram cannot be sent
  *     LD_PRELOAD=./failing.so THREAD=2 PROGRAM                              the second thread that it asks for is refused
@@ -17,6 +19,7 @@ void *dlsym(void *library, const char *name);
 char *getenv(const char *name);
 unsigned long strtoul(const char *digits, char **end, int base);
 int strcmp(const char *one, const char *other);
+int usleep(unsigned microseconds);
 int *__errno_location(void);
 
 enum { EAGAIN = 11, FILES_MAX = 1024 };
@@ -27,7 +30,7 @@ struct turn {
 };
 
 static struct turn on_file, received, sent, threads;
-static unsigned long fault, halved, grown;
+static unsigned long fault, halved, grown, slow;
 static const char *path;
 /* Whether a descriptor is the file, a socket, or what waits for a socket. */
 static char is_it[FILES_MAX], is_socket[FILES_MAX], is_waited[FILES_MAX];
@@ -48,6 +51,7 @@ __attribute__((constructor)) static void begin(void) {
     fault = number("ERROR");
     halved = number("HALF");
     grown = number("GROWN");
+    slow = number("SLOW");
 }
 
 /* Counts a call, and tells whether it fails. */
@@ -95,9 +99,16 @@ long pwrite(int file, const void *bytes, size count, long at) {
     return whole(file, bytes, count / 2, at);
 }
 
-int fsync(int file) { return fails_on(file) ? -1 : ((int (*)(int))next("fsync"))(file); }
+/* A sync of the file, or of another, by this call. */
+static int synced(int file, const char *call) {
+    if (slow && file >= 0 && file < FILES_MAX && is_it[file])
+        usleep((unsigned)slow);
+    return fails_on(file) ? -1 : ((int (*)(int))next(call))(file);
+}
 
-int fdatasync(int file) { return fails_on(file) ? -1 : ((int (*)(int))next("fdatasync"))(file); }
+int fsync(int file) { return synced(file, "fsync"); }
+
+int fdatasync(int file) { return synced(file, "fdatasync"); }
 
 int ftruncate(int file, long count) { return fails_on(file) ? -1 : ((int (*)(int, long))next("ftruncate"))(file, count); }
 

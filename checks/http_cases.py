@@ -7,7 +7,8 @@ import subprocess
 import time
 
 from harness import SECONDS_MAX, Tally, write
-from http_client import AHEAD, JSON, PLAIN, UNCACHED, Answer, Client, age_of, get, head, request, request_in_chunks, shown, text, words_of
+from http_client import ACCEPTS, AHEAD, JSON, PLAIN, UNCACHED, Answer, Client, accepted, age_of, get, head, request, request_in_chunks
+from http_client import shown, text, words_of
 from http_nodes import SETTINGS, Primary, insert_of, job
 
 BODY_MAX = 5_242_880
@@ -121,17 +122,12 @@ def rows_as_json(tally, node):
         tally.case("rows of both kinds", shown(client.post(bytes_too)), text(200, "job 0 ticket 6\n"))
         numbers = '{"version":6,"table":"acct","row":"10","values":["-9223372036854775808","9223372036854775807"]}'
         site = '{"version":6,"table":"site","row":"10","values":["x4e45"]}'
-        for accept, path, expected in (
-            ("application/json", "acct/10", numbers),
-            ("application/json", "site/10", site),
-            ("text/html, application/json;q=0.9", "site/10", site),
-        ):
-            answer = client.get(f"/tables/{path}", f"Accept: {accept}")
-            status, body, *fields = shown(answer)
-            tally.case(f"{path} as {accept}", (status, body.removesuffix("\n"), fields), (200, expected, [JSON, UNCACHED]))
         plain = text(200, "version 6\nacct 10 -9223372036854775808 9223372036854775807\n")
-        for accept in ("*/*", "text/plain", "text/html"):
-            tally.case(f"a row as {accept}", shown(client.get("/tables/acct/10", f"Accept: {accept}")), plain)
+        for accept, is_json in ACCEPTS:
+            found = shown(client.get("/tables/acct/10", *accepted(accept)))
+            tally.case(f"a row as {accept}", found, (200, numbers + "\n", JSON, UNCACHED) if is_json else plain)
+        found = shown(client.get("/tables/site/10", "Accept: application/json"))
+        tally.case("bytes of a row as JSON", found, (200, site + "\n", JSON, UNCACHED))
         tally.case("bytes of a row", shown(client.get("/tables/site/10")), text(200, "version 6\nsite 10 x4e45\n"))
         missing = shown(client.get("/tables/acct/11", "Accept: application/json"))
         tally.case("no row as JSON", missing, text(404, "missing\n"))
@@ -377,6 +373,11 @@ def denials(tally, node):
             found = shown(client.ask(request(node.http, "POST", "/jobs", job_of_a_page, line)))
             tally.case(f"a job of {line}", found, text(403, "origin\n"))
             tally.case(f"a GET of {line}", shown(client.get("/tables/acct/1", line)), text(403, "origin\n"))
+        own_page, other_page = f"Origin: http://{own}", "Origin: http://evil.example"
+        own_site, other_site = "Sec-Fetch-Site: same-origin", "Sec-Fetch-Site: cross-site"
+        for lines in ((own_page, other_page), (other_page, own_page), (own_page, own_page), (own_site, other_site), (other_site, own_site)):
+            found = shown(client.ask(request(node.http, "POST", "/jobs", job_of_a_page, *lines)))
+            tally.case(f"a job of {' and '.join(lines)}", found, text(403, "origin\n"))
         tally.case("no job of a page is done", shown(client.get("/tables/acct/90")), text(404, "missing\n"))
         for line in (f"Origin: http://{own}", "Sec-Fetch-Site: same-origin", "Sec-Fetch-Site: none"):
             tally.case(f"a GET of {line}", client.get("/tables/acct/1", line).status, 200)

@@ -21,6 +21,17 @@ LENGTH = re.compile(r"0|[1-9][0-9]*")
 AT_ONCE = struct.pack("ii", 1, 0)
 
 PLAIN, JSON, UNCACHED = "text/plain; charset=us-ascii", "application/json", "no-store"
+# The fields `Accept` of requests, each its lines, of which the first have the answer be JSON.
+ACCEPTS = (
+    *((accept, True) for accept in (
+        ["application/json"], ["Application/JSON"], ["text/html, application/json;q=0.9"], ["text/html,application/json"],
+        ["application/json ; q=0"], ["*/*\t,\tAPPLICATION/JSON"], ["application/json,text/html"], ["text/html", "application/json"],
+        ["application/json", "text/html"], ["text/html;q=0.5", "", "text/plain ,application/json"])),
+    *((accept, False) for accept in (
+        [], [""], ["*/*"], ["text/plain"], ["text/html"], ["application/*"], ["application/json-seq"],
+        ["application/jsonp,application/jso"], ["xapplication/json"], ["text/html;x=application/json"], ["application /json"],
+        ["application/json text/html"], ["application", "/json"], ["application/", "json"])),
+)
 
 # Refused before the node looks at a request: with such a status there is no body; with these bodies there is no date.
 REFUSED, UNDATED = (400, 413, 414, 431, 501), ((403, b"origin\n"), (421, b"host\n"), (503, b"full\n"))
@@ -168,6 +179,11 @@ def request(address, method, target, body=None, *lines):
 
 def get(address, target, *lines):
     return request(address, "GET", target, None, *lines)
+
+
+def accepted(accept):
+    """The lines of these fields `Accept`."""
+    return [f"Accept: {it}" for it in accept]
 
 
 def in_chunks(body, sizes, extension=b"", trailers=()):

@@ -9,7 +9,7 @@ import socket
 import threading
 import time
 
-from harness import SECONDS_MAX, WORDS, Tally, write
+from harness import SECONDS_MAX, WORDS, Tally, built, preloaded, write
 from http_client import Answers, Client, Malformed, all_answers, connected, exchanged, get, head, request, request_in_chunks
 from http_client import seconds_until_end, shown, text
 from http_nodes import SETTINGS, Primary, Rows, insert_of, job, jobs_in, outcomes
@@ -21,6 +21,8 @@ REQUEST_SECONDS, IDLE_SECONDS, ANSWER_SECONDS, LATE = 10, 30, 30, 3
 # In MiB: how much a node holds of requests in all, and how much memory it may have beside that, since room that grows is up to twice
 # what is in it. And clients that send more.
 HELD_MAX, HELD_MORE, HOARDERS, HOARD_SECONDS = 256, 320, 120, 3
+# How many microseconds a sync of a slow disk takes longer, and how many jobs with a sync each take longer there than a request may.
+SYNC_MICROSECONDS, JOBS_OF_A_LONG_ROUND = 2_000, 6_000
 # Within how many seconds others are answered meanwhile.
 OTHERS_SECONDS = 1
 # What a node may answer to what is no good request.
@@ -588,6 +590,24 @@ def slow_crowd(tally, node, places=CONNECTIONS_MAX):
         client.socket.close()
 
 
+def long_round(tally, node):
+    """The jobs of one client take longer than a request may: the time in which nobody is heard counts against no other."""
+    jobs = job(0, "expect acct 60000 0 0", "set acct 60000 1 1") * JOBS_OF_A_LONG_ROUND
+    data = post(node.http, job(0, insert_of(3)))
+    with Client(node.http) as slow, Client(node.http) as other:
+        tally.case("the row of a long round", other.post(job(0, insert_of(60_000))).status, 200)
+        slow.send(data[:-20])
+        time.sleep(0.5)
+        start = time.monotonic()
+        found = other.post(jobs).status, time.monotonic() - start > REQUEST_SECONDS
+        tally.case("a client whose jobs take longer than a request may", found, (200, True))
+        # (its connection is looked at, and goes on)
+        for at in range(-20, -10):
+            slow.send(data[at:at + 1])
+            time.sleep(0.1)
+        tally.case("a request that was begun before them", shown(slow.ask(data[-10:])), text(200, "job 0 ticket 6002\n"))
+
+
 def is_about(seconds, limit, late=LATE):
     return seconds is not None and limit - 0.2 <= seconds <= limit + late
 
@@ -608,9 +628,11 @@ def waits(at):
     tally, slowest, is_done = Tally(), [], threading.Event()
     write(f"{at}/schema", SETTINGS)
     tried = (slow_head, slow_body, idle_client, idle_behind_answer, begun_behind_request, slow_within_limit, deaf_client, jobs_of_the_deaf)
-    with Primary(at) as node, Primary(at, journal="crowded") as crowded:
+    disk = preloaded(built(at, "failing"), FILE=f"{at}/slow", SLOW=SYNC_MICROSECONDS)
+    with Primary(at) as node, Primary(at, journal="crowded") as crowded, Primary(at, journal="slow", env=disk) as slow:
         threads = [threading.Thread(target=attempt, args=(tally, it, node)) for it in tried]
         threads.append(threading.Thread(target=attempt, args=(tally, slow_crowd, crowded)))
+        threads.append(threading.Thread(target=attempt, args=(tally, long_round, slow)))
         other = threading.Thread(target=asking, args=(node, is_done, slowest))
         for it in (*threads, other):
             it.start()

@@ -232,6 +232,7 @@ def kills(at):
     tally.outcomes["tickets"] += len(told.tickets)
     tally.outcomes["commits"] += len(commits)
     full_disk(tally, at)
+    fault_of_another(tally, at)
     return tally
 
 
@@ -262,6 +263,37 @@ def on_full_disk(tally, name, node, fault, kept, journal=None):
         write(kept, journal.read())
     told.check(tally, name, commits_in(node.schema, kept))
     tally.outcomes["full disks"] += 1
+
+
+def fault_of_another(tally, at):
+    """The journal fails by a job of standard input. A client whose next job comes before the node ends is told so, unless a job of its
+    own was to be written together with that one: then its connection ends. So there are rounds until it is told, or so many."""
+    for number in range(ROUNDS_MAX):
+        limit = "-c 0; trap '' XFSZ; ulimit -f 40"
+        with Primary(at, journal=f"fails {number}", stdin=subprocess.PIPE, limit=limit) as node:
+            told = Told()
+            node.send(job(1, *(insert_of(row) for row in range(1000))))
+            answer = last_answer(node, told)
+            tally.case("a fault of another: the end", node.ended(), (1, f"batchdb: {node.journal}: write: {FILE_TOO_LARGE}\n"))
+            told.check(tally, "a fault of another", node.commits())
+        if answer:
+            tally.case("a fault of another: what a client is told", (answer.status, answer.body), (500, b"journal\n"))
+            return
+    tally.case("a fault of another: a client is told", False, True)
+
+
+def last_answer(node, told):
+    """The answer at which a client stops that has jobs done, one after another: one that is not 200, or none."""
+    with Client(node.http) as client:
+        for row in range(2000, 2000 + BODIES_MAX):
+            inserted = job(0, insert_of(row))
+            told.begins(inserted)
+            answer = client.post(inserted)
+            if answer is None or answer.status != 200:
+                return answer
+            told.answered(inserted, answer)
+            time.sleep(SHORTEST_WAIT)
+    raise ValueError("the node does not end")
 
 
 # ---- standard input beside HTTP

@@ -447,6 +447,8 @@ class ReplicaTalk:
         self.tally, self.name, self.source, self.boot, self.address, self.pages = tally, name, source, boot, address, pages
         # Batches and queries that were answered; batches that perhaps were; the newest version that was told.
         self.batches, self.queries, self.unsure, self.newest = 0, 0, 0, 0
+        # What its tables may be told with: the version of a report, also of one that nobody read.
+        self.versions = {0}
         self.failed, self.is_broken, self.is_late, self.late = 0, False, False, None
 
     def case(self, step, found, expected):
@@ -491,8 +493,10 @@ class ReplicaTalk:
         """The report of a batch."""
         if not self.is_answered(answer):
             self.unsure += 1
+            self.versions.add(self.source.story.world.durable)
             return
         report = self.source.report(queries)
+        self.versions.add(self.source.story.world.durable)
         expected = (200, as_json(report) + "\n", JSON) if "JSON" in step else (200, report, PLAIN)
         self.case(step, shown(answer), expected)
         self.batches, self.queries, self.newest = self.batches + 1, self.queries + len(queries), self.source.story.world.durable
@@ -513,8 +517,11 @@ class ReplicaTalk:
             self.case(path, (status, told, kind), (200, self.status(told), JSON))
         elif path == "/metrics":
             self.case(path, (status, masked(told), kind), (200, masked(self.pages[path]), PLAIN))
+        elif path == "/tables":
+            expected = [f"version {it}\n{TABLES}" for it in sorted(self.versions)]
+            self.case(path, (status, told if told not in expected else expected[-1], kind), (200, expected[-1], PLAIN))
         else:
-            self.case(path, (status, told, kind), (200, TABLES, PLAIN) if path == "/tables" else (200, self.pages[path], HTML))
+            self.case(path, (status, told, kind), (200, self.pages[path], HTML))
 
     def status(self, told):
         """The status to the byte; what a batch without an answer may have changed is within its ends."""
@@ -529,11 +536,12 @@ class ReplicaTalk:
         return in_one_line(told)
 
     def last(self):
-        """Whether a batch more is answered, once memory is there again. On a busy machine its turns may be used up before."""
+        """Whether a batch more is answered, once memory is there again. On a busy machine its turns may be used up before; and it may
+        come just where memory was refused for one before it."""
         with Talk(self.address) as talk:
             for _ in range(TRIES):
                 answer = talk.ask(batch(self.address, QUERIES))
-                if answer is None or answer.body != b"late\n":
+                if answer is None or answer.body not in (b"late\n", b"memory\n"):
                     break
         if answer is None or answer.status in (500, 503):
             return False
@@ -543,7 +551,7 @@ class ReplicaTalk:
 
 # How many conversations are had with replicas of one primary: with each there is a commit more to fetch.
 REPLICAS_EACH = 5
-# How often a replica is asked that answers that a batch is late.
+# How often a replica is asked that answers that a batch is late, or that memory was missing.
 TRIES = 20
 
 
@@ -602,8 +610,9 @@ def one_at_replica(tally, name, source, refusals, number, more, pages):
                 tally.case(f"{name}: answers that did not come, or were late", (talk.failed > 2, talk.is_late), (False, False))
         else:
             ended = end_of(node)
-            expected = "broken" if talk and talk.is_broken else ended if ended in ENDS else ""
-            tally.case(f"{name}: its end", ended, expected)
+            # Once it has answered a batch, it ends for one request only if it is broken. (With all behind that its input may end, too.)
+            is_broken = talk and (talk.is_broken or talk.batches and not more)
+            tally.case(f"{name}: its end", ended, "broken" if is_broken else ended if ended in ENDS else "")
             tally.outcomes[f"replicas ended: {ended}"] += 1
     return was_refused
 

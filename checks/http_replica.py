@@ -4,14 +4,15 @@ that clients were told of."""
 import concurrent.futures
 import contextlib
 import hashlib
+import os
 import random
 import threading
 import time
 
 from harness import SECONDS_MAX, WORDS, Tally, contents, free_address, run, write
 from http_cases import BODY_MAX, PAGE_FIELDS, allowed, fault_of, refused
-from http_client import PLAIN, UNCACHED, Answer, Client, Malformed, all_answers, exchanged, get, head, request, request_in_chunks
-from http_client import shown, text
+from http_client import ACCEPTS, PLAIN, UNCACHED, Answer, Client, Malformed, accepted, all_answers, exchanged, get, head, request
+from http_client import request_in_chunks, shown, text
 from http_figures import figures, status_of
 from http_hostile import FEW_DESCRIPTORS, HOST, IDLE_SECONDS, OTHERS_SECONDS, REQUEST_SECONDS, answers_to, attempt, batches
 from http_hostile import begun_behind_request, changed, deaf_client, goes_on, idle_behind_answer, idle_client, is_about, padded
@@ -62,12 +63,10 @@ def reports_of_batches(tally, pair):
     tally.case("a report of no rows", shown(pair.ask(COUNT)), text(200, report(0, [["0"]])))
     pair.commit(*EXAMPLE)
     queries, lines = zip(*EXAMPLES)
-    for name, fields in (("no Accept", ()), ("*/*", ("Accept: */*",)), ("text/plain", ("Accept: text/plain",))):
-        found = shown(pair.ask(*queries, fields=fields))
-        tally.case(f"the examples, by {name}", found, text(200, report(1, lines)))
-    for accept in ("application/json", "text/html, application/json;q=0.9"):
-        found = shown_json(pair.ask(*queries, fields=[f"Accept: {accept}"]))
-        tally.case(f"the examples, by {accept}", found, in_json(as_json(report(1, lines))))
+    for accept, is_json in ACCEPTS:
+        answer, told = pair.ask(*queries, fields=accepted(accept)), report(1, lines)
+        found, expected = (shown_json(answer), in_json(as_json(told))) if is_json else (shown(answer), text(200, told))
+        tally.case(f"the examples, by {accept}", found, expected)
     for query, answer in EXAMPLES:
         tally.case(query, shown(pair.ask(query)), text(200, report(1, [answer])))
     pair.commit(*(insert_of(row, 30, 2**63 - 1) for row in (30, 31, 32)), insert_of(33, 31, -(2**63)), insert_of(34, 31, -(2**63)))
@@ -146,12 +145,22 @@ def unread_batches(tally, pair):
         tally.case("a batch behind these", shown(pair.ask(COUNT)), pair.expected(COUNT))
 
 
+def tables(version, acct="int int", site="bytes2"):
+    """What a replica tells of its tables at this version, with these columns."""
+    return text(200, f"version {version}\ntable acct {acct}\ntable site {site}\n")
+
+
 def added_column(tally, pair):
-    """A column that is added while the replica runs."""
+    """A column that is added while the replica runs. The tables are told as they are at the newest report."""
     queries = ("query acct where 2 = 3 get count sum 2", COUNT)
+    client = pair.enter_context(Client(pair.replica.http))
+    pair.ask(COUNT)
+    newest = pair.told.newest
     tally.case("a column before it is added", fault_of(pair.ask(*queries)), (400, "line 1: no such column"))
     pair.commit("column acct 3")
+    tally.case("GET /tables before a report on a new column", shown(client.get("/tables")), tables(newest))
     on_new_column(tally, pair, queries)
+    tally.case("GET /tables behind a report on it", shown(client.get("/tables")), tables(newest + 1, "int int int"))
     pair.commit("set acct 10 2 -7", insert_of(40, 1, 2, 2**62))
     tally.case("its values", shown(pair.ask(*queries, "query acct by 2 get count")), pair.expected(*queries, "query acct by 2 get count"))
     pair.commit("column site x0102")
@@ -159,9 +168,7 @@ def added_column(tally, pair):
     found = shown_json(pair.ask(joined, COUNT, fields=JSON_WANTED))
     tally.case("a column of a joined table", found, in_json(as_json(pair.expected(joined, COUNT)[1])))
     tally.case("a column that is still not there", fault_of(pair.ask(COUNT, "query acct get sum 3")), (400, "line 2: no such column"))
-    tables = "".join(line + "\n" for line in SETTINGS.splitlines()[2:])
-    with Client(pair.replica.http) as client:
-        tally.case("GET /tables", shown(client.get("/tables")), text(200, tables))
+    tally.case("GET /tables", shown(client.get("/tables")), tables(pair.told.newest, "int int int", "bytes2 bytes2"))
 
 
 def on_new_column(tally, pair, queries):
@@ -252,6 +259,7 @@ def status_and_figures(tally, at):
     """What a replica tells of itself, before and after batches."""
     with Pair(at, "figures") as pair, Client(pair.replica.http) as client:
         tally.case("the status of a new replica", lone_status(client), status(pair, applied=0, batches=0, queries=0))
+        tally.case("the tables of a new replica", shown(client.get("/tables")), tables(0))
         kinds, before = figures(client)
         tally.case("the families of a replica's figures", kinds, FAMILIES)
         labels = {key[0]: {other[2] for other in before if other[0] == key[0]} for key in before if key[1]}
@@ -302,6 +310,21 @@ def idle_replica(tally, at):
             received = datagrams(client, "received")
             tally.case("datagrams that it receives", received <= IDLE_DATAGRAMS + TURN_DATAGRAMS or received, True)
             tally.case("its next batch", shown(client.ask(batch(client.address, [COUNT]))), text(200, report(count, [[str(count)]])))
+
+
+def other_width(tally, at):
+    """A replica whose table has another width than the primary's breaks at the first row: its client is told so, and it ends."""
+    os.mkdir(f"{at}/wide")
+    write(f"{at}/wide/schema", SETTINGS.replace("acct int int", "acct int int int"))
+    listens, asks = free_address(), free_address()
+    with Primary(at, asks, journal="narrow", listen=listens) as node, Replica(f"{at}/wide", asks, listens) as replica:
+        with Client(replica.http) as client:
+            tally.case("another width, without a row", shown(client.ask(batch(client.address, [COUNT]))), text(200, report(0, [["0"]])))
+            with Client(node.http) as primary:
+                primary.post(job(0, insert_of(1)))
+            tally.case("another width, with a row", shown(client.ask(batch(client.address, [COUNT]))), text(500, "broken\n"))
+        ended = replica.ended()
+        tally.case("another width: the end", ended, (1, "batchdb: the replica is broken; start it again with another BOOT\n"))
 
 
 def status(pair, **members):
@@ -394,12 +417,12 @@ def changed_batches(tally, pair):
 
 
 def note_answer(tally, reports, answer, body):
-    """Counts an answer; a report has to be that of the queries of its body, on all commits."""
+    """Counts an answer; a report has to be that of the queries of its body, on all commits, and tables those at the newest one."""
     if answer.status not in STATUSES:
         raise ValueError(f"the status {answer.status}")
     tally.outcomes[f"answers {answer.status}"] += 1
     is_json = answer.body.startswith(b'{"version":') and b'"queries":[' in answer.body[:60]
-    if not is_json and not answer.body.startswith(b"version "):
+    if not is_json and (not answer.body.startswith(b"version ") or shown(answer) == tables(reports.count)):
         return
     queries = [line for line in body.decode("ascii", "surrogateescape").split("\n") if line and not line.startswith("#")]
     expected = reports.at(reports.count, queries)
@@ -570,8 +593,8 @@ def replica(at):
     write(f"{at}/schema", SETTINGS)
     with concurrent.futures.ThreadPoolExecutor() as pool:
         slow = pool.submit(slow_ones, at)
-        for case in (one_replica, status_and_figures, idle_replica, many_at_once, input_beside, primary_away, kills, turns_used_up,
-                     end_under_load, wrong_words, crowd, descriptors, fresh_nodes, places_left):
+        for case in (one_replica, status_and_figures, idle_replica, other_width, many_at_once, input_beside, primary_away, kills,
+                     turns_used_up, end_under_load, wrong_words, crowd, descriptors, fresh_nodes, places_left):
             attempt(tally, case, at)
         tally.add(slow.result())
     return tally

@@ -1,11 +1,14 @@
-//! Standard input that is read without waiting for long.
+//! Standard input that is read without waiting for long, and closed where it ends.
 
+use crate::files::NULL_DEVICE;
 use mio::unix::SourceFd;
 use mio::{Events, Interest, Poll, Token};
 use std::alloc::Global;
+use std::fs::File;
 use std::io::{self, ErrorKind, Read};
 use std::net::Net;
 use std::os::fd::RawFd;
+use std::rt::Files;
 use std::time::Duration;
 
 /// The descriptor of standard input.
@@ -15,19 +18,26 @@ const STDIN: RawFd = 0;
 const WAIT_MILLIS: u64 = 10;
 
 /// A reader of standard input whose reads wait for a moment at most: where nothing came they fail with
-/// `WouldBlock`, so that the thread that reads can see whether it is to end.
+/// `WouldBlock`, so that the thread that reads can see whether it is to end. Where the input ends it is closed.
 #[derive(Drop)]
-pub struct PolledInput<R: Read + Drop> {
+pub struct PolledInput<'a, H: Files<File = File>, R: Read + Drop> {
+    host: &'a H,
     input: R,
     /// `None` for what cannot be waited for, as a regular file, which never makes a reader wait.
     poll: Option<Poll>,
     events: Events,
+    has_ended: bool,
+    /// The null device, in the place of an input that has ended.
+    null: Option<File>,
 }
 
-impl<R: Read + Drop> PolledInput<R> {
+impl<'a, H: Files<File = File>, R: Read + Drop> PolledInput<'a, H, R> {
     /// A reader of standard input, which `input` reads.
-    pub fn new<N: Net>(net: &N, alloc: Global, input: R) -> io::Result<PolledInput<R>> {
-        let poll = Poll::new(net)?;
+    pub fn new(host: &'a H, alloc: Global, input: R) -> io::Result<PolledInput<'a, H, R>>
+    where
+        H: Net,
+    {
+        let poll = Poll::new(host)?;
         let events = Events::with_capacity(alloc, 1)?;
         let registered = poll
             .registry()
@@ -37,9 +47,12 @@ impl<R: Read + Drop> PolledInput<R> {
             Err(_) => None,
         };
         Ok(PolledInput {
+            host,
             input,
             poll,
             events,
+            has_ended: false,
+            null: None,
         })
     }
 
@@ -55,13 +68,33 @@ impl<R: Read + Drop> PolledInput<R> {
         poll.poll(&mut self.events, Some(Duration::from_millis(WAIT_MILLIS)))?;
         Ok(!self.events.is_empty())
     }
+
+    /// Closes standard input: a FIFO then has one reader less, so that nobody writes into it what is not read. The null device
+    /// takes its descriptor, or else a file that is opened later would; nothing is read from it any more.
+    fn close(&mut self) {
+        self.has_ended = true;
+        self.poll = None;
+        let _ = libc::close(STDIN);
+        self.null = File::options()
+            .read(true)
+            .write(true)
+            .open(self.host, NULL_DEVICE)
+            .ok();
+    }
 }
 
-impl<R: Read + Drop> Read for PolledInput<R> {
+impl<'a, H: Files<File = File>, R: Read + Drop> Read for PolledInput<'a, H, R> {
     fn read(&mut self, buf: &mut [u8]) -> io::Result<usize> {
+        if self.has_ended {
+            return Ok(0);
+        }
         if !self.is_ready()? {
             return Err(io::Error::from(ErrorKind::WouldBlock));
         }
-        self.input.read(buf)
+        let len = self.input.read(buf)?;
+        if len == 0 && !buf.is_empty() {
+            self.close();
+        }
+        Ok(len)
     }
 }

@@ -41,6 +41,9 @@ const NOT_READ: u8 = 2;
 /// What `--version` prints after the program's name.
 pub const VERSION: &str = "0.3.0";
 
+/// How the option is named whose letter is a backslash.
+const BACKSLASH_OPTION: &str = "'-\\'";
+
 /// What `--help` prints.
 const HELP: &str = "\
 batchdb: a replicated engine for transactions and analytics
@@ -410,6 +413,15 @@ fn refuse_told<E: Write>(alloc: Global, words: &[&str], errors: &mut E) -> u8
 
 /// What is wrong with words, in which each of them is as a fault line shows it. `None` when out of memory.
 fn wrong_text(alloc: Global, words: &[&str]) -> Option<String> {
+    let text = text_of_shown(alloc, words)?;
+    match unnamed_letter(words) {
+        Some(letter) => with_letter(alloc, text.as_str(), letter),
+        None => Some(text),
+    }
+}
+
+/// What is wrong with words as a fault line shows them. `None` when out of memory.
+fn text_of_shown(alloc: Global, words: &[&str]) -> Option<String> {
     let mut all = Vec::new(alloc);
     for word in words {
         // An empty one stands between the quotes of the text.
@@ -425,6 +437,38 @@ fn wrong_text(alloc: Global, words: &[&str]) -> Option<String> {
         Err(Unasked::Told(answer)) => text_of(alloc, &answer),
         _ => None,
     }
+}
+
+/// The letter of the first option of one letter that is named by a backslash, if that stands for a control character. The first
+/// word is the program's own name, and words behind `--` are no options.
+fn unnamed_letter(words: &[&str]) -> Option<char> {
+    for word in words.iter().skip(1) {
+        if *word == "--" {
+            return None;
+        }
+        match first_option(word) {
+            Some('\\') => return None,
+            Some(letter) if letter.is_control() => return Some(letter),
+            _ => {}
+        }
+    }
+    None
+}
+
+/// The first letter behind the hyphen of a word.
+fn first_option(word: &str) -> Option<char> {
+    word.strip_prefix("-")?.chars().next()
+}
+
+/// A text in which an option of one letter is named as a fault line shows that letter: of the number that stands for a control
+/// character it names the backslash alone. `None` when out of memory.
+fn with_letter(alloc: Global, text: &str, letter: char) -> Option<String> {
+    let mut word = String::new(alloc);
+    word.push('-').ok()?;
+    word.push(letter).ok()?;
+    let word = shown(alloc, word.as_str())?;
+    let named = format!(in alloc; "'{word}'").ok()?;
+    text.replace(alloc, BACKSLASH_OPTION, named.as_str()).ok()
 }
 
 /// Writes what is wrong with words, in one line: the first paragraph of a text; what follows that is advice.

@@ -157,7 +157,7 @@ fn serve_over<
 ) -> Result<(), NodeFault> {
     let follower = &mut *follower;
     let streams = &mut *streams;
-    let clients = clients_over(gathering, facts.figures);
+    let clients = clients_over(gathering, facts);
     let served = while_serving(
         host.rt,
         host.alloc,
@@ -176,8 +176,12 @@ fn serve_over<
 }
 
 /// The clients whose requests wait in a gathering.
-fn clients_over<'a>(gathering: &'a Gathering, figures: &'a Figures) -> Clients<'a> {
-    Clients { gathering, figures }
+fn clients_over<'a>(gathering: &'a Gathering, facts: &'a ReplicaFacts<'a>) -> Clients<'a> {
+    Clients {
+        gathering,
+        figures: facts.figures,
+        schema: &facts.setup.schema,
+    }
 }
 
 /// A replica's node at its socket, and the drain of that, if the system grants one.

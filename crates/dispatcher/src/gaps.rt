@@ -7,7 +7,7 @@ ghost use Rattle.dispatcher.specs.Gaps.{gaps_between, gaps_from};
 use intake::{Intake, Taken, first_missing_is_least};
 
 /// A place in a worker's stream from which on frames are missing.
-#[derive(Clone, Copy, Debug, PartialEq, Eq)]
+#[derive(Clone, Copy, PartialEq, Eq)]
 pub struct Gap {
     pub worker: u8,
     /// The first of them.

@@ -1,7 +1,7 @@
 //! The replica's core: bytes and values in, bytes and values out.
 
 ghost use Rattle.std.specs.Prelude.{◌≡◌, ℕ, ◌<◌, ◌≤◌, ◌^◌, ◌-◌, [], Some, true, false, Ok, Err, OnOk, IfOk, IfErr, IsOk};
-ghost use Rattle.std.specs.Prelude.{take, vec_capacity, All};
+ghost use Rattle.std.specs.Prelude.{take, vec_capacity, All, slice_get};
 ghost use Rattle.std.specs.List.{AllByRecursion};
 ghost use Rattle.std.specs.Option.{option_map};
 ghost use Rattle.rows.specs.Faults.{IsFaultOf};
@@ -37,7 +37,7 @@ use plans::answer_batch;
 use queries::{Plan, report};
 use rows::laws::changes_tell_kinds;
 use rows::limits::WAITING_QUERIES_MAX;
-use rows::{ByteList, Schema};
+use rows::{ByteList, Kind, Schema};
 use std::alloc::{AllocError, Global};
 use std::marker::{Model, Sync};
 use std::thread::Threads;
@@ -139,6 +139,17 @@ impl<S: ApplyStore + Sync> ReplicaCore<S> {
         ensures { result ≡ self.now.version }
     {
         self.version
+    }
+
+    /// The kinds of a table's columns at its version, lent: those of the schema, and behind them those that were added. `None` if
+    /// there is no table of that number, or the replica is broken. Takes no memory.
+    pub fn kinds(&self, table: u8) -> Option<&[Kind]>
+        ensures { option_map (λ kinds. kinds.now) result ≡ slice_get (shape_in self.now.tables) table }
+    {
+        if self.broken {
+            return None;
+        }
+        self.store.kinds(table)
     }
 
     /// Whether `open` would take this query now. Takes no memory.

@@ -1,7 +1,7 @@
 //! What was counted, as it was read.
 
 /// How many jobs were answered, and how.
-#[derive(Clone, Copy, Debug, PartialEq, Eq)]
+#[derive(Clone, Copy, PartialEq, Eq)]
 pub struct JobCounts {
     pub ticket: u64,
     pub conflict: u64,
@@ -9,7 +9,7 @@ pub struct JobCounts {
 }
 
 /// How many datagrams went through a node's port.
-#[derive(Clone, Copy, Debug, PartialEq, Eq)]
+#[derive(Clone, Copy, PartialEq, Eq)]
 pub struct Datagrams {
     pub received: u64,
     pub ignored: u64,

@@ -8,7 +8,7 @@ use std::sync::atomic::{AtomicU64, Ordering};
 const NEVER: u64 = u64::MAX;
 
 /// The version that a replica was told last, and how many milliseconds ago.
-#[derive(Clone, Copy, Debug, PartialEq, Eq)]
+#[derive(Clone, Copy, PartialEq, Eq)]
 pub struct LastTold {
     pub version: u64,
     pub millis: u64,

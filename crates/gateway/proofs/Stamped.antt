@@ -1,5 +1,5 @@
 -- An answer tells the same of jobs if a field is added to it.
-use Rattle.std.proofs.Common.{◌≡◌, ap, sym, ◌∙◌, ℕ, List}
+use Rattle.std.proofs.Common.{◌≡◌, ap, sym, ◌∙◌, subst, ℕ, ◌<◌, List}
 use Rattle.http.specs.declared.request.Request.{Request}
 use Rattle.http_server.specs.declared.response.Response.{Response}
 use Rattle.rows.specs.Shape.{Shape}
@@ -12,8 +12,11 @@ tells-stamped told old new status body tells = record {
   all = (λ good.
       let is = tells.all (sym status ∙ good) in
       (is.0, is.1, ap (λ (b : _). b.items) body ∙ is.2));
-  some = (λ conflict. ap (λ (b : _). b.items) body ∙ tells.some (sym status ∙ conflict));
-  none = (λ bad. tells.none (sym status ∙ bad));
+  some = (λ conflict.
+      let is = tells.some (sym status ∙ conflict) in
+      (is.0, ap (λ (b : _). b.items) body ∙ is.1));
+  other = (λ low good conflict.
+      tells.other (subst (λ (s : ℕ). s < 500) status low) (λ is. good (status ∙ is)) (λ is. conflict (status ∙ is)));
 }
 
 pub answers-stamped : (workers : ℕ) (shape : Shape) (old : DeskState) (request : Request (List ℕ)) (before after : Response)

@@ -129,11 +129,10 @@ told-call : (workers : ℕ) (shape : Shape) (first : SeatState)
     → AnswersAt (denial_of request) (AnswersJobs workers shape) old request response next → next.has_lost ≡ false
     → Went workers shape next.job_seat end → IsSettled workers shape end new
     → ToldStands shape (length first.list) new.seat.list (request, response)
-told-call workers shape first jobs old next end new request response t is kept later settled = λ free has good.
+told-call workers shape first jobs old next end new request response t is kept later settled = λ free has.
     let called = (subst (λ denial. AnswersAt denial (AnswersJobs workers shape) old request response next) free is) kept in
     let told = called.1.0 in
     let takes = called.1.1 in
-    let tells = (called.1.2 has).all good in
     let after = takes.goes first jobs t in
     let last = settled.goes first ((jobs ++ takes.jobs) ++ later.more) (later.goes first (jobs ++ takes.jobs) after) in
     let R = IsJobAnswer shape (length first.list) new.seat.list in
@@ -151,14 +150,12 @@ told-call workers shape first jobs old next end new request response t is kept l
     (append-nil ((jobs ++ takes.jobs) ++ later.more))
     (taken-whole workers shape first (((jobs ++ takes.jobs) ++ later.more) ++ []) settled.done last settled.none))) in (
       told,
-      tells.2,
+      called.1.2 has,
       record {
-        some = tells.0;
         jobs = takes.jobs;
         each =
             zip-back R jobs takes.jobs (outcomes old.job_seat) told many
             (zip-front R (jobs ++ takes.jobs) later.more (outcomes old.job_seat ++ told) later.told (more ∙ both) each);
-        tickets = tells.1;
       },
     )
 

@@ -27,12 +27,12 @@ IsTicket (answers.Ticket number) = Unit {0}
 IsTicket (answers.Conflict number) = ⊥
 IsTicket (answers.Refused refusal) = ⊥
 
--- what is told of jobs that are answered so: with status 200 or 409 their lines, and with 200 there is one at least, and each has a
--- ticket; with status 400 no job was taken
+-- what is told of jobs that are answered so: with status 200 or 409 their lines; with 200 there is one at least, and each has a ticket,
+-- and with 409 one has none; with any other status below 500 no job was taken
 pub record Tells (told : List JobAnswer) (response : Response) : Type 0 where
   pub all : response.status ≡ 200 → (0 < length told) × All IsTicket told × (response.body.items ≡ numbered_lines 0 told)
-  pub some : response.status ≡ 409 → response.body.items ≡ numbered_lines 0 told
-  pub none : response.status ≡ 400 → told ≡ []
+  pub some : response.status ≡ 409 → ¬ (All IsTicket told) × (response.body.items ≡ numbered_lines 0 told)
+  pub other : response.status < 500 → ¬ (response.status ≡ 200) → ¬ (response.status ≡ 409) → told ≡ []
 
 -- jobs were taken at a seat, each of which is answered so
 pub record TakesJobs (workers : ℕ) (shape : Shape) (old new : JobSeatState) (told : List JobAnswer) : Type 0 where
@@ -70,21 +70,18 @@ abbrev pub SettlesJobs : ℕ → Shape → DeskState → Bool → DeskState → 
 SettlesJobs workers shape old stands new =
     stands ≡ true → (old.has_lost ≡ false) × (new.has_lost ≡ false) × IsSettled workers shape old.job_seat new.job_seat
 
--- jobs that were answered with tickets, whose commits stand in the list: each is of the job's worker, and has the entries that the
--- job's steps make from version `from` or a later one
+-- jobs that are answered so, each as the list has it: the commit of a ticket stands there, is of the job's worker, and has the entries
+-- that the job's steps make from version `from` or a later one
 pub record AreDone (shape : Shape) (from : ℕ) (list : List Commit) (told : List JobAnswer) : Type 0 where
-  pub some : 0 < length told
   pub jobs : List Job
   pub each : AllZip (IsJobAnswer shape from list) jobs told
-  pub tickets : All IsTicket told
 
--- a call that told with status 200 of jobs told of such
+-- a call that told of jobs told of such, whatever its status: with 200 and 409 all that its lines say stands
 abbrev pub ToldStands : Shape → ℕ → List Commit → Call → Type 0
 ToldStands shape from list call =
-    denial_of call.0 ≡ None → IsJobs call.0 → call.1.status ≡ 200
-    → (told : List JobAnswer) × (call.1.body.items ≡ numbered_lines 0 told) × AreDone shape from list told
+    denial_of call.0 ≡ None → IsJobs call.0 → (told : List JobAnswer) × Tells told call.1 × AreDone shape from list told
 
--- the law: what a round told with status 200 of jobs stands once it has settled, if nothing was taken at the seat before the round
+-- the law: what a round told of jobs stands once it has settled, if nothing was taken at the seat before the round
 abbrev pub WhatIsToldStands : Type 0
 WhatIsToldStands =
     (workers : ℕ) (shape : Shape) (old called new : DeskState) (calls : List Call) → old.job_seat.answers ≡ []

@@ -75,15 +75,22 @@ pub(crate) fn answer_page(response: &mut Response, text: &str)
     response.status = StatusCode::SERVICE_UNAVAILABLE;
 }
 
-/// Whether a client wants JSON: its `Accept` names it.
+/// Whether a client wants JSON: its fields `Accept`, which are one list, name it. Weights are not looked at.
 pub(crate) fn wants_json(request: &Request<Bytes>) -> bool {
-    match request.headers().get(ACCEPT) {
-        Some(value) => value
-            .as_bytes()
-            .windows(JSON.len())
-            .any(|part| part == JSON.as_bytes()),
-        None => false,
+    for value in request.headers().get_all(ACCEPT) {
+        if value.as_bytes().split(|byte| *byte == b',').any(is_json) {
+            return true;
+        }
     }
+    false
+}
+
+/// Whether an entry of `Accept` names JSON, in whichever case: the name ends where its parameters begin.
+fn is_json(entry: &[u8]) -> bool {
+    let Some(name) = entry.split(|byte| *byte == b';').next() else {
+        return false;
+    };
+    name.trim_ascii().eq_ignore_ascii_case(JSON.as_bytes())
 }
 
 /// Answers as `answer` does, with one field more.

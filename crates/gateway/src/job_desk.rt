@@ -1,6 +1,6 @@
 //! Jobs of requests, taken at a seat and made durable at the end of a round.
 
-ghost use Rattle.std.specs.Prelude.{◌≡◌, ◌<◌, List, length, [], false, true, All};
+ghost use Rattle.std.specs.Prelude.{◌≡◌, ◌<◌, ◌↔◌, List, length, [], false, All, IsTrue};
 ghost use Rattle.http_server.specs.Response.{IsBlank};
 ghost use Rattle.rows.specs.Shape.{shape_of};
 ghost use Rattle.sockets.specs.declared.job_answer.JobAnswer.{JobAnswer as Answer};
@@ -291,14 +291,14 @@ fn tell(alloc: Global, told: &[JobAnswer], response: &mut Response)
 
 /// Whether each job has a ticket.
 fn are_tickets(told: &[JobAnswer]) -> bool
-    ensures { result ≡ true → All IsTicket told.now }
+    ensures { IsTrue result ↔ All IsTicket told.now }
 {
     told.iter().all(is_ticket)
 }
 
 /// Whether a job has a ticket.
 fn is_ticket(answer: &JobAnswer) -> bool
-    ensures { result ≡ true → IsTicket answer.now }
+    ensures { IsTrue result ↔ IsTicket answer.now }
 {
     matches!(answer, JobAnswer::Ticket(_))
 }
@@ -317,7 +317,7 @@ fn tell_page(method: &str, response: &mut Response)
 /// Tells that a path takes POST alone.
 fn tell_no_post(response: &mut Response)
     requires { IsBlank response.old }
-    ensures { (told : List Answer) → Tells told response.new }
+    ensures { Tells [] response.new }
 {
     answer_use_post(response);
 }

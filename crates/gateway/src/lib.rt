@@ -4,8 +4,9 @@
 //! and makes them durable together with those of the other requests of its round. It reads rows at
 //! another seat, as they are durable.
 //!
-//! Promised: a request with jobs is answered 200 only with a ticket for each of its jobs, and what is
-//! answered is the lines of what the jobs are answered. Once the round that it is in has settled, each of
+//! Promised: a request with jobs is answered 200 only with a ticket for each of its jobs, and 409 only if one
+//! has none; either way what is answered is the lines of what the jobs are answered. With any other status below
+//! 500 no job was taken. Once the round that it is in has settled, each of
 //! these tickets names a commit that stands in the list that the seat has seen, with the job's worker and
 //! the entries that its steps make (`laws::what_is_told_stands`). Not promised: that the jobs are those
 //! of the body's lines, and what is told of a row; both are tested.

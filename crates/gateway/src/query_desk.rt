@@ -12,7 +12,7 @@ use crate::body::BodyFault;
 use crate::replica_facts::ReplicaFacts;
 use crate::replica_page::REPLICA_PAGE;
 use crate::replica_path::{ReplicaPath, replica_path_of};
-use crate::replica_reports::{replica_metrics, replica_status, tables_text};
+use crate::replica_reports::{replica_metrics, replica_status, replica_tables};
 use bytes::Bytes;
 use gathering::{Answer, Gathering};
 use http::{Request, StatusCode};
@@ -57,7 +57,7 @@ impl<'a, T: Wait> QueryDesk<'a, T> {
             ReplicaPath::Metrics => {
                 replica_metrics(self.rt, self.alloc, self.facts, self.gathering)
             }
-            ReplicaPath::Tables => tables_text(self.alloc, &self.facts.setup.schema),
+            ReplicaPath::Tables => replica_tables(self.rt, self.alloc, self.facts, self.gathering),
             _ => {
                 answer_page(response, REPLICA_PAGE);
                 return;

@@ -120,7 +120,9 @@ const made = (name, text = '', className = '') => Object.assign(document.createE
 
 // The text that is asked again, if it read; when the report was asked for; the ask that waits for its answer.
 let asked = null, askedAt = null, waiting = null;
-let tablesText = '', parts = [];
+// The version of the newest report when the tables were asked for last, and their lines.
+let tablesAt = null, tableLines = '';
+let parts = [];
 
 // It is changed only where it differs, so that a screen reader says it once.
 function tellState(isAnswered) {
@@ -129,7 +131,8 @@ function tellState(isAnswered) {
   const time = new Date().toTimeString().slice(0, 8);
   at('state').textContent = isAnswered ? 'answers' : `does not answer since ${time}; it is asked again each second`;
   at('state').className = className;
-  if (isAnswered) showTables();
+  // (it may be another node)
+  tablesAt = null;
 }
 
 async function poll() {
@@ -148,19 +151,23 @@ async function poll() {
   if (status.waiting) told.push(`${status.waiting} waiting`);
   if (status.broken) told.push('broken');
   at('node').textContent = told.join(', ');
+  if (tablesAt !== status.applied) showTables(status.applied);
 }
 
-// The tables, to which columns may have been added. A name adds a query.
-async function showTables() {
+// The tables, to which columns may have been added: a line of their version, and then one for each. A name adds a query.
+async function showTables(version) {
   let text = '';
   try {
     const answer = await fetch('tables');
-    if (answer.ok) text = await answer.text();
+    if (!answer.ok) return;
+    text = await answer.text();
   } catch (error) { return }
-  if (text === tablesText) return;
-  tablesText = text;
-  const tables = text.split('\n').map(line => line.split(' ')).filter(words => words[0] === 'table');
-  at('schema').hidden = !tables.length;
+  tablesAt = version;
+  const lines = text.slice(text.indexOf('\n') + 1);
+  if (lines === tableLines) return;
+  tableLines = lines;
+  const tables = lines.trimEnd().split('\n').map(line => line.split(' '));
+  at('schema').hidden = false;
   at('tables').replaceChildren(...tables.map(([, name, ...kinds]) => {
     const item = made('li');
     const button = Object.assign(made('button', name, 'name'), { type: 'button', title: 'adds a query' });
@@ -171,7 +178,7 @@ async function showTables() {
     item.append(button, ` ${kinds.map((kind, column) => `${column} ${kind}`).join(', ')}`);
     return item;
   }));
-  if (!at('queries').value && tables.length) at('queries').value = `query ${tables[0][1]} get count`;
+  if (!at('queries').value) at('queries').value = `query ${tables[0][1]} get count`;
 }
 
 // What a query's columns are: the words by which it groups, and then those of each aggregate.
@@ -311,7 +318,6 @@ async function ask(text) {
 
 function askByHand() {
   history.replaceState(at('queries').value, '');
-  showTables();
   ask(at('queries').value);
 }
 

@@ -3,7 +3,7 @@
 use crate::metrics_text::{push_connections, push_datagrams, push_head, push_line, push_statuses};
 use crate::replica_facts::ReplicaFacts;
 use crate::status_text::push_member;
-use gathering::Gathering;
+use gathering::{Gathering, Tables};
 use rows::limits::TABLES_MAX;
 use rows::{Kind, Schema, append_number};
 use std::alloc::{AllocError, Global};
@@ -80,9 +80,25 @@ pub(crate) fn replica_metrics<T: Wait>(
     Ok(text)
 }
 
-/// The tables of a schema, each in a line as in the schema file. Fails only if out of memory.
-pub(crate) fn tables_text(alloc: Global, schema: &Schema) -> Result<Vec<u8>, AllocError> {
+/// The tables of a replica at the version of its newest report, or, before the first, as they are opened. Fails only if out of memory.
+pub(crate) fn replica_tables<T: Wait>(
+    rt: &T,
+    alloc: Global,
+    facts: &ReplicaFacts<'_>,
+    gathering: &Gathering,
+) -> Result<Vec<u8>, AllocError> {
+    match gathering.tables(rt)? {
+        Some(Tables { version, schema }) => tables_text(alloc, version, &schema),
+        None => tables_text(alloc, 0, &facts.setup.schema),
+    }
+}
+
+/// A version, and each table in a line as in the schema file. Fails only if out of memory.
+fn tables_text(alloc: Global, version: u64, schema: &Schema) -> Result<Vec<u8>, AllocError> {
     let mut text = Vec::new(alloc);
+    text.extend_from_slice(b"version ")?;
+    append_number(&mut text, version)?;
+    text.push(b'\n')?;
     for table in 0..TABLES_MAX {
         let (Some(name), Some(kinds)) = (schema.name(table), schema.kinds(table)) else {
             break;

@@ -9,7 +9,8 @@ ghost use Rattle.gathering.specs.Requests.{count_of};
 use crate::answer::Answer;
 use crate::place::Place;
 use crate::request::{Part, Request};
-use crate::waiting::{End, Waiting};
+use crate::tables::Tables;
+use crate::waiting::{Denial, Waiting};
 use reports::parts_of;
 use requests::Query;
 use std::alloc::{AllocError, Global};
@@ -26,6 +27,8 @@ pub struct Gathering {
     /// Told of each request that comes.
     came: Condvar,
     places: Vec<Place>,
+    /// As they were noted last.
+    tables: Mutex<Option<Tables>>,
 }
 
 impl Gathering {
@@ -40,6 +43,7 @@ impl Gathering {
             waiting: Mutex::new(Waiting::new(alloc)),
             came: Condvar::new(),
             places: all,
+            tables: Mutex::new(None),
         })
     }
 
@@ -56,7 +60,7 @@ impl Gathering {
         };
         let mut waiting = self.waiting.lock(rt);
         if let Some(end) = waiting.end {
-            return answer_at(end);
+            return denied(end);
         }
         if waiting.push(place, queries).is_err() {
             return Answer::Memory;
@@ -114,14 +118,29 @@ impl Gathering {
         }
     }
 
+    /// Answers each request that was taken that memory was refused; if none was taken, all that wait.
+    pub fn answer_memory<R: Wait>(&self, rt: &R) {
+        let under_way = self.waiting.lock(rt).take_under_way();
+        for part in &under_way {
+            self.tell(rt, part.place, Answer::Memory);
+        }
+        if under_way.is_empty() {
+            self.tell_all(rt, Denial::Memory);
+        }
+    }
+
     /// Answers all requests, those that were taken and those that wait, that they are late.
     pub fn turn_away<R: Wait>(&self, rt: &R) {
-        self.tell_all(rt, End::Done);
+        self.tell_all(rt, Denial::Late);
     }
 
     /// Says that no request is answered any more, of a replica that is broken, or that serves no longer.
     pub fn end<R: Wait>(&self, rt: &R, is_broken: bool) {
-        let end = if is_broken { End::Broken } else { End::Done };
+        let end = if is_broken {
+            Denial::Broken
+        } else {
+            Denial::Late
+        };
         self.waiting.lock(rt).end = Some(end);
         self.tell_all(rt, end);
     }
@@ -133,7 +152,7 @@ impl Gathering {
 
     /// Whether it was said that the replica is broken.
     pub fn is_broken<R: Wait>(&self, rt: &R) -> bool {
-        matches!(self.waiting.lock(rt).end, Some(End::Broken))
+        matches!(self.waiting.lock(rt).end, Some(Denial::Broken))
     }
 
     /// Why clients are served no longer, if that was said and not taken before.
@@ -141,15 +160,28 @@ impl Gathering {
         self.waiting.lock(rt).fault.take()
     }
 
+    /// Notes the tables as they are at the newest report.
+    pub fn note_tables<R: Wait>(&self, rt: &R, tables: Tables) {
+        *self.tables.lock(rt) = Some(tables);
+    }
+
+    /// The tables that were noted last; `None` before. Fails only if out of memory.
+    pub fn tables<R: Wait>(&self, rt: &R) -> Result<Option<Tables>, AllocError> {
+        match &*self.tables.lock(rt) {
+            Some(tables) => Ok(Some(tables.clone()?)),
+            None => Ok(None),
+        }
+    }
+
     /// Answers so all requests that there are now. Clients that ask again meanwhile wait behind these: so many are taken, and no more,
     /// or clients that never stop would keep the thread that serves the replica.
-    fn tell_all<R: Wait>(&self, rt: &R, end: End) {
+    fn tell_all<R: Wait>(&self, rt: &R, why: Denial) {
         let count = self.waiting.lock(rt).count();
         for _ in 0..count {
             let Some(place) = self.waiting.lock(rt).take_any() else {
                 return;
             };
-            self.tell(rt, place, answer_at(end));
+            self.tell(rt, place, denied(why));
         }
     }
 
@@ -161,11 +193,12 @@ impl Gathering {
     }
 }
 
-/// What is answered at an end.
-fn answer_at(end: End) -> Answer {
-    match end {
-        End::Done => Answer::Late,
-        End::Broken => Answer::Broken,
+/// The answer of a request that has no report.
+fn denied(why: Denial) -> Answer {
+    match why {
+        Denial::Late => Answer::Late,
+        Denial::Broken => Answer::Broken,
+        Denial::Memory => Answer::Memory,
     }
 }
 

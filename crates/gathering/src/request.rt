@@ -1,5 +1,7 @@
 //! A client's request.
 
+ghost use Rattle.std.specs.Prelude.{◌≡◌};
+
 use requests::Query;
 
 /// A client's request for queries.
@@ -12,7 +14,9 @@ pub struct Request {
 
 impl Request {
     /// Its queries. Takes no memory.
-    pub fn into_queries(self) -> Vec<Query> {
+    pub fn into_queries(self) -> Vec<Query>
+        ensures { result ≡ self.queries }
+    {
         self.queries
     }
 }

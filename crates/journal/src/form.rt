@@ -1,6 +1,6 @@
 /// Which form the text of a journal has. A text of version 1 has no commit that adds a column; a
 /// mark ends its part of a journal that then goes on as version 2.
-#[derive(Clone, Copy, Debug, PartialEq, Eq)]
+#[derive(Clone, Copy, PartialEq, Eq)]
 pub enum Form {
     /// Of version 2 from the beginning.
     New,

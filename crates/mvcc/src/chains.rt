@@ -17,6 +17,7 @@ ghost use Rattle.rows.specs.Spelling.{AreBytes};
 use crate::chain::Chain;
 use crate::columns::Columns;
 use crate::image::push_row;
+use crate::image_place::ImagePlace;
 use rows::limits::TABLES_MAX;
 use rows::{Commit, Entry, RowId};
 use std::alloc::{AllocError, Global};
@@ -75,7 +76,7 @@ impl Chains {
         self.chains.len()
     }
 
-    /// Adds to an image an insert for each row of the table from an identifier on that is there at a
+    /// Adds to an image an insert for each row of a place's table from that place on that is there at a
     /// version, in rising identifier, with the bytes of this blank row behind its own. After this many
     /// rows that were ever written, which is at least 1, it stops at the next one and answers that
     /// one's identifier; `None` if none is left. Fails only if out of memory.
@@ -83,30 +84,30 @@ impl Chains {
         &self,
         alloc: Global,
         version: u64,
-        table: u8,
-        from: u64,
+        place: ImagePlace,
         most: usize,
         blank: &[u8],
         image: &mut Vec<Entry>,
     ) -> Result<Option<u64>, AllocError>
-        requires table { table < TABLES_MAX }
+        requires table { place.table < TABLES_MAX }
         requires some { 0 < most }
         requires sorted { (table row : ℕ) → IsNonDecreasingBy (λ link. link.version) (links_at self.now table row) }
         ensures inserts { IfOk result (λ next. image.new.items ≡ image.old.items
-            ++ inserts_of table (found_at version blank.now (chains_within table from next self.now))) }
-        ensures bytes { IfOk result
-            (λ next. AllByRecursion (λ row. AreBytes row.1) (found_at version blank.now (chains_within table from next self.now))) }
-        ensures later { IfOk result (λ next. IfSome next (λ row. from < row)) }
+            ++ inserts_of place.table (found_at version blank.now (chains_within place.table place.row next self.now))) }
+        ensures bytes { IfOk result (λ next. AllByRecursion (λ row. AreBytes row.1)
+            (found_at version blank.now (chains_within place.table place.row next self.now))) }
+        ensures later { IfOk result (λ next. IfSome next (λ row. place.row < row)) }
         ensures ordered { IsStrictlySortedBy key_cmp (keys_of self.now) }
     {
+        let from = (place.table, place.row);
         let mut left = most;
-        for (key, chain) in self.chains.range((table, from)..(table + 1, 0)) {
+        for (key, chain) in self.chains.range(from..(place.table + 1, 0)) {
             if left == 0 {
                 return Ok(Some(key.1));
             }
             left -= 1;
             let bytes = chain.bytes_at(version);
-            push_row(alloc, image, table, RowId(key.1), blank, bytes)?;
+            push_row(alloc, image, place.table, RowId(key.1), blank, bytes)?;
         }
         Ok(None)
     }

@@ -287,11 +287,11 @@ impl Versions {
         changes_tell_kinds();
         images_rebuild_tables();
         self.schema.keeps_limits();
-        let ImagePlace { table, row } = place;
+        let table = place.table;
         if table as usize >= TABLES_MAX {
             return Ok(None);
         }
-        if let Some(row) = self.push_table_part(version, table, row, most.max(1), image)? {
+        if let Some(row) = self.push_table_part(version, place, most.max(1), image)? {
             return Ok(Some(ImagePlace { table, row }));
         }
         let table = table + 1;
@@ -330,36 +330,36 @@ impl Versions {
         added
     }
 
-    /// Adds the image of one table at that version from a row on, if there is a table of that number:
-    /// from row 0 on with its added columns. It goes over this many rows that were ever written, and
-    /// answers the identifier of the next one; `None` if none is left. Fails only if out of memory.
+    /// Adds the image of a place's table at that version from that place on, if there is a table of that
+    /// number: from row 0 on with its added columns. It goes over this many rows that were ever written,
+    /// and answers the identifier of the next one; `None` if none is left. Fails only if out of memory.
     fn push_table_part(
         &self,
         version: u64,
-        table: u8,
-        from: u64,
+        place: ImagePlace,
         most: usize,
         image: &mut Vec<Entry>,
     ) -> Result<Option<u64>, AllocError>
-        requires table { table < TABLES_MAX }
+        requires table { place.table < TABLES_MAX }
         requires some { 0 < most }
         ensures part { IfOk result (λ next. image.new.items ≡ image.old.items
-            ++ table_part (shape_of self.now.schema) (tables_at self.now version) table from next) }
-        ensures later { IfOk result (λ next. IfSome next (λ row. from < row)) }
+            ++ table_part (shape_of self.now.schema) (tables_at self.now version) place.table place.row next) }
+        ensures later { IfOk result (λ next. IfSome next (λ row. place.row < row)) }
     {
         rows_have_their_bytes();
         images_rebuild_tables();
         commits_are_defined_one_by_one();
         changes_tell_kinds();
+        let table = place.table;
         let Some(kinds) = self.kinds_at(version, table) else {
             return Ok(None);
         };
-        if from == 0 {
+        if place.row == 0 {
             push_columns(image, table, self.added_at(version, table))?;
         }
         let (blank, _) = self.columns.blank(table).split_at(width_of_row(kinds));
         self.chains
-            .push_rows(self.alloc, version, table, from, most, blank, image)
+            .push_rows(self.alloc, version, place, most, blank, image)
     }
 
     /// The number of the last commit with an entry of that row; 0 if there is none. A commit that

@@ -1,3 +1,4 @@
+mod Naming
 mod Telling
 mod Choosing
 mod Crews

@@ -25,7 +25,8 @@ struct Known {
     has_ended: bool,
     /// How many were taken, or could not be.
     tried: u64,
-    /// How many pieces the newest has.
+    /// The newest, and how many pieces it has.
+    base: u64,
     pieces: u64,
 }
 
@@ -67,6 +68,7 @@ impl Bases {
                 is_due: false,
                 has_ended: false,
                 tried: 0,
+                base: 0,
                 pieces: 0,
             }),
             changed: Condvar::new(),
@@ -116,8 +118,13 @@ impl Bases {
         let mut known = self.known.lock(rt);
         known.is_due = false;
         known.tried = known.tried.wrapping_add(1);
-        if let Ok((_, pieces)) = taken {
-            known.pieces = *pieces;
+        match taken {
+            // (two that are taken at once may end in the other order)
+            Ok((base, pieces)) if *base >= known.base => {
+                known.base = *base;
+                known.pieces = *pieces;
+            }
+            _ => {}
         }
     }
 

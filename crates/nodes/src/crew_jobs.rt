@@ -13,12 +13,12 @@ ghost use Rattle.requests.specs.AnswerLines.{numbered_lines};
 ghost use Rattle.nodes.specs.Inner.Crews.{AreFirst};
 
 use crate::answers::{push_answer, tell_all};
-use crate::faults::NodeFault;
+use crate::faults::{NodeFault, fault_of_worker};
 use crate::host::Host;
 use crate::printing::print;
 use journal::JournalStore;
 use shared::{Line, Origin};
-use sockets::{Gate, Job, Worker, WorkersFault, are_of_workers, run_crew};
+use sockets::{Gate, Job, Worker, are_of_workers, run_crew};
 use std::alloc::{AllocError, Global};
 use std::io::Write;
 use std::sync::Wait;
@@ -61,10 +61,7 @@ pub fn do_all<
         Err(fault) => fault,
     };
     tell_some(host.alloc, jobs, crew, writer)?;
-    match fault {
-        WorkersFault::Journal => Err(NodeFault::Journal),
-        _ => Err(NodeFault::Memory),
-    }
+    Err(fault_of_worker(fault))
 }
 
 /// Writes what was answered before a worker failed, one worker after the other.

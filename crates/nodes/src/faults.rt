@@ -1,6 +1,9 @@
 //! Why a node ends before its work is done.
 
+ghost use Rattle.std.specs.Prelude.{◌≡◌};
+
 use requests::RequestFault;
+use sockets::WorkersFault;
 use std::io;
 
 /// Why a node ends before its work is done. Whoever started it says so in its own words.
@@ -28,4 +31,15 @@ pub enum NodeFault {
     Slipped,
     /// The turns or the time of a batch are used up.
     Unanswered,
+}
+
+/// Why a node ends, one of whose workers has ended so.
+pub fn fault_of_worker(fault: WorkersFault) -> NodeFault
+    ensures journal { fault ≡ WorkersFault.Journal → result ≡ NodeFault.Journal }
+    ensures other { ¬ (fault ≡ WorkersFault.Journal) → result ≡ NodeFault.Memory }
+{
+    match fault {
+        WorkersFault::Journal => NodeFault::Journal,
+        _ => NodeFault::Memory,
+    }
 }

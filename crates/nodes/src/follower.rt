@@ -1,5 +1,9 @@
 //! A replica that answers batches, turn by turn, and says what it does.
 
+ghost use Rattle.std.specs.Prelude.{◌≡◌, true, false, Err};
+ghost use Rattle.dispatcher.specs.Steps.{asked};
+ghost use Rattle.dispatcher.specs.declared.faults.AskFault.TheVariants as asks;
+
 use crate::bases::millis_since;
 use crate::batches::{Batches, Next, Taker};
 use crate::clients::Clients;
@@ -9,7 +13,8 @@ use crate::host::Host;
 use crate::pace::Pace;
 use crate::printing::print;
 use crate::saying::{say_slip, was_just_now};
-use dispatcher::{OpenFault, ReplicaCore};
+use crate::tables::tables_of;
+use dispatcher::{AskFault, OpenFault, ReplicaCore};
 use gathering::Gathering;
 use queries::{Aggregate, AggregateList, ColumnList, ConditionList, Plan, PlanFault};
 use requests::{BATCH_QUERIES_MAX, LineFault, Misread, Query, RequestFault, Skipped, elements_of};
@@ -37,6 +42,8 @@ enum UnderWay {
     Input,
     /// One of clients.
     Clients,
+    /// One of clients that were answered before it was, since memory was refused for it.
+    Nobody,
 }
 
 /// A replica's node, with its pace, and how far it came with its batches.
@@ -114,7 +121,8 @@ impl<S: ApplyStore + Sync, P: Port + Drop> Follower<S, P> {
     ///
     /// Fails with `Unanswered` if the turns or the time of a batch of the input are used up; with `Input` if a query does not fit
     /// the tables, also after the newest columns came, unless it is live: then that batch is passed over, of which is told; with
-    /// `Clients`, `Socket`, `Broken`, `Memory` and `Output`.
+    /// `Memory` if memory is refused for a batch of the input: clients for whose batch it is are told so, and it goes on; with
+    /// `Clients`, `Socket`, `Broken` and `Output`.
     pub(crate) fn follow<T: Threads + Wait + Clock + Sync, W: Write, E: Write>(
         &mut self,
         host: Host<'_, T>,
@@ -129,32 +137,45 @@ impl<S: ApplyStore + Sync, P: Port + Drop> Follower<S, P> {
             if ending.is_stopped() || self.is_over(host, batches, clients)? {
                 return Ok(());
             }
-            if let UnderWay::Nothing = self.under_way {
-                self.await_request(host, clients);
-                self.begin_next(host, batches, &mut taker, clients)?;
-            }
-            if self.is_full() {
-                self.rest(host, clients);
-                continue;
-            }
-            self.count_turn(host, clients)?;
-            match self.turn(host, clients, writer, errors) {
-                Ok(true) => {
-                    self.under_way = UnderWay::Nothing;
-                    // A client that was answered may soon ask again.
-                    self.is_quiet = true;
-                }
-                Ok(false) => {}
-                Err(fault) => {
-                    self.pass_over(host, fault, clients, ending, errors)?;
-                    self.under_way = UnderWay::Nothing;
-                }
+            if let Err(fault) = self.step(host, batches, &mut taker, clients, writer, errors) {
+                self.pass_over(host, fault, clients, ending, errors)?;
             }
             if let UnderWay::Input = self.under_way {
                 self.say_waiting(host, errors);
             }
         }
         unreachable!()
+    }
+
+    /// Begins the next batch if none is under way, and serves one turn. Fails where the batch under way cannot be answered.
+    fn step<T: Threads + Wait + Clock + Sync, W: Write, E: Write>(
+        &mut self,
+        host: Host<'_, T>,
+        batches: &Batches,
+        taker: &mut Taker,
+        clients: Option<Clients<'_>>,
+        writer: &mut W,
+        errors: &Mutex<E>,
+    ) -> Result<(), NodeFault> {
+        match self.under_way {
+            UnderWay::Nothing => {
+                self.await_request(host, clients);
+                self.begin_next(host, batches, taker, clients)?;
+            }
+            UnderWay::Nobody => self.await_request(host, clients),
+            UnderWay::Input | UnderWay::Clients => {}
+        }
+        if self.is_full() {
+            self.rest(host, clients);
+            return Ok(());
+        }
+        self.count_turn(host, clients)?;
+        if self.turn(host, clients, writer, errors)? {
+            self.under_way = UnderWay::Nothing;
+            // A client that was answered may soon ask again.
+            self.is_quiet = true;
+        }
+        Ok(())
     }
 
     /// Whether it is to end: no batch of the input is left, and it has no clients, or its turns for them are used up. Fails where
@@ -232,7 +253,8 @@ impl<S: ApplyStore + Sync, P: Port + Drop> Follower<S, P> {
         }
     }
 
-    /// Begins a batch of the requests of clients that wait, if any does. Whether one is begun.
+    /// Begins a batch of the requests of clients that wait, if any does. Whether one is begun. If it fails, it is one of clients that
+    /// is under way.
     fn begin_gathered<T: Wait + Clock>(
         &mut self,
         host: Host<'_, T>,
@@ -241,14 +263,15 @@ impl<S: ApplyStore + Sync, P: Port + Drop> Follower<S, P> {
         let Some(Clients { gathering, .. }) = clients else {
             return Ok(false);
         };
+        self.under_way = UnderWay::Clients;
         let Ok(queries) = gathered(host, self.node.core(), gathering) else {
             return Err(NodeFault::Memory);
         };
         if queries.is_empty() {
+            self.under_way = UnderWay::Nothing;
             return Ok(false);
         }
         self.prefers_clients = false;
-        self.under_way = UnderWay::Clients;
         self.begin(host, queries)?;
         Ok(true)
     }
@@ -262,7 +285,8 @@ impl<S: ApplyStore + Sync, P: Port + Drop> Follower<S, P> {
     ) -> Result<(), NodeFault> {
         match (self.under_way, clients) {
             (UnderWay::Input, _) if !self.may_go_on(host) => Err(NodeFault::Unanswered),
-            (UnderWay::Clients, Some(Clients { gathering, .. })) if !self.may_go_on(host) => {
+            (UnderWay::Clients | UnderWay::Nobody, Some(Clients { gathering, .. }))
+                if !self.may_go_on(host) => {
                 gathering.turn_away(host.rt);
                 self.left = self.pace.turns;
                 self.begun_at = Instant::now(host.rt).ok();
@@ -272,10 +296,10 @@ impl<S: ApplyStore + Sync, P: Port + Drop> Follower<S, P> {
         }
     }
 
-    /// Tells of a query that does not fit the tables also after the newest columns came: the client whose it is, or, live, who
-    /// reads the errors; its batch is passed over. All else ends the node.
+    /// Passes over the batch under way, and tells why: of a query that does not fit the tables also after the newest columns came the
+    /// client whose it is, or, live, who reads the errors; of memory that was refused the clients. All else ends the node.
     fn pass_over<T: Wait, E: Write>(
-        &self,
+        &mut self,
         host: Host<'_, T>,
         fault: NodeFault,
         clients: Option<Clients<'_>>,
@@ -284,21 +308,48 @@ impl<S: ApplyStore + Sync, P: Port + Drop> Follower<S, P> {
     ) -> Result<(), NodeFault> {
         let slip = match fault {
             NodeFault::Input(slip) => slip,
+            NodeFault::Memory => return self.give_up(host, clients),
             fault => return Err(fault),
         };
         if let (UnderWay::Clients, Some(Clients { gathering, .. })) = (self.under_way, clients) {
-            let Ok(why) = format!(in host.alloc; "{slip}\n") else {
-                return Err(NodeFault::Memory);
-            };
-            gathering.refuse(host.rt, why.as_str());
+            self.under_way = UnderWay::Nothing;
+            match format!(in host.alloc; "{slip}\n") {
+                Ok(why) => gathering.refuse(host.rt, why.as_str()),
+                Err(_) => gathering.answer_memory(host.rt),
+            }
             return Ok(());
         }
         if !self.is_live {
             return Err(NodeFault::Input(slip));
         }
+        self.under_way = UnderWay::Nothing;
         ending.slip();
         say_slip(host, &slip, errors);
         Ok(())
+    }
+
+    /// Answers the clients whose batch is under way that memory was refused. What the replica was asked of it is still answered
+    /// before the next batch, but to nobody. Fails with `Memory` where it is no batch of clients.
+    fn give_up<T: Wait>(
+        &mut self,
+        host: Host<'_, T>,
+        clients: Option<Clients<'_>>,
+    ) -> Result<(), NodeFault> {
+        match (self.under_way, clients) {
+            (UnderWay::Clients | UnderWay::Nobody, Some(Clients { gathering, .. })) => {
+                gathering.answer_memory(host.rt);
+                self.held = Vec::new(host.alloc);
+                self.under_way = if has_queries(self.node.core()) {
+                    UnderWay::Nobody
+                } else {
+                    UnderWay::Nothing
+                };
+                // It waits for a moment before it tries again.
+                self.is_quiet = true;
+                Ok(())
+            }
+            _ => Err(NodeFault::Memory),
+        }
     }
 
     /// Opens a batch. One that does not fit the replica's tables is held, and a query of the node's own goes first: with
@@ -395,8 +446,11 @@ impl<S: ApplyStore + Sync, P: Port + Drop> Follower<S, P> {
             self.go_on(host.alloc)?;
             return Ok(false);
         }
-        if let Some(Clients { figures, .. }) = clients {
-            figures.note_batch(self.node.core().version(), self.queries);
+        if let UnderWay::Nobody = self.under_way {
+            return Ok(true);
+        }
+        if let Some(clients) = clients {
+            note_report(host, self.node.core(), self.queries, clients);
         }
         match (self.under_way, clients) {
             (UnderWay::Clients, Some(Clients { gathering, .. })) => {
@@ -472,6 +526,37 @@ pub fn fault_of(fault: ServeFault) -> NodeFault {
         ServeFault::Socket => NodeFault::Socket,
         ServeFault::Broken => NodeFault::Broken,
         ServeFault::Memory => NodeFault::Memory,
+    }
+}
+
+/// Notes a report of so many queries that a replica has made: its version, and the tables as they are then. If there is no memory for
+/// these, those that were noted before stay, with their version.
+fn note_report<T: Wait, S: ApplyStore + Sync>(
+    host: Host<'_, T>,
+    replica: &ReplicaCore<S>,
+    queries: u64,
+    clients: Clients<'_>,
+) {
+    let Clients {
+        gathering,
+        figures,
+        schema,
+    } = clients;
+    figures.note_batch(replica.version(), queries);
+    if let Some(tables) = tables_of(host.alloc, schema, replica) {
+        gathering.note_tables(host.rt, tables);
+    }
+}
+
+/// Whether a replica has a batch, or queries that wait for one, or is broken: the next batch that it is asked has not its own queries
+/// alone.
+fn has_queries<S: ApplyStore + Sync>(replica: &ReplicaCore<S>) -> bool
+    ensures none { result ≡ false → asked replica.now ≡ Err asks.Empty }
+    ensures some { result ≡ true → ¬ (asked replica.now ≡ Err asks.Empty) }
+{
+    match replica.may_ask() {
+        Err(AskFault::Empty) => false,
+        _ => true,
     }
 }
 

@@ -9,8 +9,9 @@
 //! Promised: the line of a job's answer is written only for an answer that `sockets` gives of just that job
 //! (`answers::push_answer`): so `job J ticket N` is written only where the commit numbered N stands in the durable list
 //! that the worker's seat has seen, with the job's worker and the entries that its steps make, each condition having held
-//! in its view. Not promised, and tested from outside: what is said on standard error, when a node asks and ends, and
-//! that a line is written.
+//! in its view. The tables that are noted for a replica's clients are those of its store at the version that is noted with
+//! them (`tables::tables_of`). Not promised, and tested from outside: what is said on standard error, when a node asks and
+//! ends, and that a line is written.
 //!
 //! It uses `sockets` for nodes and jobs, and `requests` for the lines of the input. The definitions to review are
 //! `specs/Lines.antt`.
@@ -38,6 +39,7 @@ mod replica;
 mod saying;
 mod server;
 mod streams;
+mod tables;
 mod threads;
 mod waiting;
 

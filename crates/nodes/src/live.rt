@@ -5,7 +5,7 @@ ghost use Rattle.std.specs.Prelude.{◌≡◌, ◌<◌, ◌≤◌, ◌↔◌, le
 use crate::answers::{tell_answers, tell_unread};
 use crate::bases::{Bases, base_line, while_keeping};
 use crate::ending::Ending;
-use crate::faults::NodeFault;
+use crate::faults::{NodeFault, fault_of_worker};
 use crate::host::Host;
 use crate::job_primary::{Primary, Work};
 use crate::lane::Lane;
@@ -22,7 +22,7 @@ use requests::{Dialect, JobReader, Request, RequestFault, Requested, Skipped};
 use rows::Schema;
 use script::Setup;
 use shared::{Line, Origin, Seat};
-use sockets::{Job, OpenGate, Port, Worker, WorkersFault};
+use sockets::{Job, OpenGate, Port, Worker};
 use std::alloc::{AllocError, Global};
 use std::io::{Read, Write};
 use std::rt::Clock;
@@ -409,8 +409,7 @@ fn do_together<L: Origin, J: JournalStore + Drop, H: Wait + Drop, T: Wait, W: Wr
     }
     match worker.fault() {
         None => Ok(()),
-        Some(WorkersFault::Journal) => Err(NodeFault::Journal),
-        Some(_) => Err(NodeFault::Memory),
+        Some(fault) => Err(fault_of_worker(fault)),
     }
 }
 

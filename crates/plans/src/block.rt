@@ -26,6 +26,7 @@ pub struct Block<'s> {
     /// In how many pieces the store lends the table's rows.
     pub pieces: usize,
     pub piece: usize,
+    /// How many rows of the piece are before the block.
     pub from: usize,
     pub ids: &'s [u64],
 }

@@ -55,7 +55,7 @@ pub fn scan_piece<S: Store>(
             let groups = scan.groups(alloc, plans, classes, table)?;
             return Ok(Some(PieceGroups { groups, rows: from }));
         }
-        scan.add(alloc, store, plans, classes, &block, from)?;
+        scan.add(alloc, store, plans, classes, &block)?;
         from += block.ids.len();
         last = next;
     }

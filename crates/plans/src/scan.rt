@@ -46,8 +46,8 @@ impl Scan {
         })
     }
 
-    /// Adds the rows of a block to at most so many earlier ones of its table. Fails only if out of
-    /// memory, or of numbers; nothing is then known of the scan.
+    /// Adds the rows of a block to those of its piece before it. Fails only if out of memory, or of
+    /// numbers; nothing is then known of the scan.
     pub fn add<S: Store>(
         &mut self,
         alloc: Global,
@@ -55,20 +55,19 @@ impl Scan {
         plans: &[Plan],
         classes: &[usize],
         block: &Block,
-        rows: usize,
     ) -> Result<(), AllocError>
         requires whole { S.is_whole store.now ≡ true }
         requires checked { AllByRecursion (λ plan. checked (shape_in (S.tables store.now)) plan ≡ Ok tt) plans.now }
         requires classes { AreClasses plans.now classes.now }
         requires block { IsBlock (S.tables store.now) block.now }
-        requires scan { (scanned : Rows) × IsScan (S.tables store.now) plans.now classes.now block.now.table scanned rows self.old }
-        requires few { rows + length block.now.ids.now < 2 ^ 64 }
+        requires scan { (scanned : Rows)
+            × IsScan (S.tables store.now) plans.now classes.now block.now.table scanned block.now.from self.old }
+        requires few { block.now.from + length block.now.ids.now < 2 ^ 64 }
         ensures { OnOk result ((scanned : Rows)
-            → IsScan (S.tables store.now) plans.now classes.now block.now.table scanned rows self.old
+            → IsScan (S.tables store.now) plans.now classes.now block.now.table scanned block.now.from self.old
             → IsScan (S.tables store.now) plans.now classes.now block.now.table (scanned ++ rows_of_block (S.tables store.now) block.now)
-            (rows + length block.now.ids.now) self.new) }
+            (block.now.from + length block.now.ids.now) self.new) }
     {
-        let mut shared = none_shared(alloc, plans.len())?;
         add_block(
             alloc,
             store,
@@ -76,9 +75,7 @@ impl Scan {
             classes,
             block,
             self.numberings.as_mut_slice(),
-            shared.as_mut_slice(),
             self.tallies.as_mut_slice(),
-            rows,
         )
     }
 
@@ -172,27 +169,26 @@ fn add_block<'s, S: Store>(
     classes: &[usize],
     block: &Block,
     numberings: &mut [Numbering],
-    shared: &mut [Option<SharedRows<'s, S::Place>>],
     tallies: &mut [Tallies],
-    rows: usize,
 ) -> Result<(), AllocError>
     requires whole { S.is_whole store.now ≡ true }
     requires checked { AllByRecursion (λ plan. checked (shape_in (S.tables store.now)) plan ≡ Ok tt) plans.now }
     requires classes { AreClasses plans.now classes.now }
     requires block { IsBlock (S.tables store.now) block.now }
     requires numberings { AreNumberings plans.now numberings.old }
-    requires shared { AreNoneShared (length plans.now) shared.old }
     requires sizes { length tallies.old ≡ length plans.now }
     requires scanned { (scanned : Rows)
-        × AreScanned (S.tables store.now) plans.now classes.now block.now.table scanned rows numberings.old tallies.old }
-    requires few { rows + length block.now.ids.now < 2 ^ 64 }
+        × AreScanned (S.tables store.now) plans.now classes.now block.now.table scanned block.now.from numberings.old tallies.old }
+    requires few { block.now.from + length block.now.ids.now < 2 ^ 64 }
     ensures numberings { OnOk result (AreNumberings plans.now numberings.new) }
     ensures sizes { OnOk result (length tallies.new ≡ length plans.now) }
     ensures scanned { OnOk result ((scanned : Rows)
-        → AreScanned (S.tables store.now) plans.now classes.now block.now.table scanned rows numberings.old tallies.old
+        → AreScanned (S.tables store.now) plans.now classes.now block.now.table scanned block.now.from numberings.old tallies.old
         → AreScanned (S.tables store.now) plans.now classes.now block.now.table (scanned ++ rows_of_block (S.tables store.now) block.now)
-        (rows + length block.now.ids.now) numberings.new tallies.new) }
+        (block.now.from + length block.now.ids.now) numberings.new tallies.new) }
 {
+    let mut list: Vec<Option<SharedRows<'s, S::Place>>> = none_shared(alloc, plans.len())?;
+    let shared = list.as_mut_slice();
     for plan in 0..plans.len() {
         let this = &plans[plan];
         if this.table != block.table {
@@ -207,7 +203,6 @@ fn add_block<'s, S: Store>(
             &mut numberings[class],
             &mut shared[class],
             &mut tallies[plan],
-            rows,
         )?;
     }
     Ok(())
@@ -223,7 +218,6 @@ fn add_plan<'s, S: Store>(
     numbering: &mut Numbering,
     shared: &mut Option<SharedRows<'s, S::Place>>,
     tallies: &mut Tallies,
-    rows: usize,
 ) -> Result<(), AllocError>
     requires whole { S.is_whole store.now ≡ true }
     requires block { IsBlock (S.tables store.now) block.now }
@@ -232,26 +226,25 @@ fn add_plan<'s, S: Store>(
     requires numbering { IsNumbering numbering.old }
     requires shared { IfSome shared.old (IsShared (S.tables store.now) (S.values_at store.now) block.now plan.now
         numbering.old.keys.items) }
-    requires scanned { (scanned : Rows) × IsScanned (S.tables store.now) plan.now numbering.old.keys.items scanned rows tallies.old }
-    requires few { rows + length block.now.ids.now < 2 ^ 64 }
+    requires scanned { (scanned : Rows)
+        × IsScanned (S.tables store.now) plan.now numbering.old.keys.items scanned block.now.from tallies.old }
+    requires few { block.now.from + length block.now.ids.now < 2 ^ 64 }
     ensures numbering { OnOk result (IsNumbering numbering.new) }
     ensures extends { OnOk result (Extends numbering.old.keys.items numbering.new.keys.items) }
     ensures stays { OnOk result (plan.now.groups ≡ [] → StaysIfKnown [] numbering.old.keys.items numbering.new.keys.items) }
     ensures shared { OnOk result
         (IfSome shared.new (IsShared (S.tables store.now) (S.values_at store.now) block.now plan.now numbering.new.keys.items)) }
     ensures scanned { OnOk result ((scanned : Rows)
-        → IsScanned (S.tables store.now) plan.now numbering.old.keys.items scanned rows tallies.old
+        → IsScanned (S.tables store.now) plan.now numbering.old.keys.items scanned block.now.from tallies.old
         → IsScanned (S.tables store.now) plan.now numbering.new.keys.items (scanned ++ rows_of_block (S.tables store.now) block.now)
-        (rows + length block.now.ids.now) tallies.new) }
+        (block.now.from + length block.now.ids.now) tallies.new) }
 {
     if let Some(shared) = shared {
-        add_shared(alloc, store, block, plan, numbering, shared, tallies, rows)?;
+        add_shared(alloc, store, block, plan, numbering, shared, tallies)?;
         return Ok(());
     }
     let mut first = share_rows(alloc, store, block, plan, numbering)?;
-    add_shared(
-        alloc, store, block, plan, numbering, &mut first, tallies, rows,
-    )?;
+    add_shared(alloc, store, block, plan, numbering, &mut first, tallies)?;
     *shared = Some(first);
     Ok(())
 }

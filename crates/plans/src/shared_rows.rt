@@ -79,8 +79,8 @@ fn row_count<S: Store>(store: &S, block: &Block, partners: &Option<Partners<S::P
     }
 }
 
-/// Adds to the tallies of a plan those of a block's rows that it selects. Fails only if out of memory;
-/// nothing is then known of the tallies.
+/// Adds to the tallies of a plan, which have the rows of the block's piece before it, those of the
+/// block's rows that it selects. Fails only if out of memory; nothing is then known of the tallies.
 pub fn add_shared<'s, S: Store>(
     alloc: Global,
     store: &'s S,
@@ -89,7 +89,6 @@ pub fn add_shared<'s, S: Store>(
     numbering: &Numbering,
     shared: &mut SharedRows<'s, S::Place>,
     tallies: &mut Tallies,
-    rows: usize,
 ) -> Result<(), AllocError>
     requires whole { S.is_whole store.now ≡ true }
     requires block { IsBlock (S.tables store.now) block.now }
@@ -97,14 +96,15 @@ pub fn add_shared<'s, S: Store>(
     requires checked { checked (shape_in (S.tables store.now)) plan.now ≡ Ok tt }
     requires numbering { IsNumbering numbering.now }
     requires shared { IsShared (S.tables store.now) (S.values_at store.now) block.now plan.now numbering.now.keys.items shared.old }
-    requires scanned { (scanned : Rows) × IsScanned (S.tables store.now) plan.now numbering.now.keys.items scanned rows tallies.old }
-    requires few { rows + length block.now.ids.now < 2 ^ 64 }
+    requires scanned { (scanned : Rows)
+        × IsScanned (S.tables store.now) plan.now numbering.now.keys.items scanned block.now.from tallies.old }
+    requires few { block.now.from + length block.now.ids.now < 2 ^ 64 }
     ensures shared { OnOk result (IsShared (S.tables store.now) (S.values_at store.now) block.now plan.now numbering.now.keys.items
         shared.new) }
     ensures scanned { OnOk result ((scanned : Rows)
-        → IsScanned (S.tables store.now) plan.now numbering.now.keys.items scanned rows tallies.old
+        → IsScanned (S.tables store.now) plan.now numbering.now.keys.items scanned block.now.from tallies.old
         → IsScanned (S.tables store.now) plan.now numbering.now.keys.items (scanned ++ rows_of_block (S.tables store.now) block.now)
-        (rows + length block.now.ids.now) tallies.new) }
+        (block.now.from + length block.now.ids.now) tallies.new) }
 {
     each_part_fits();
     tallies.grow(numbering.keys().len())?;
@@ -131,7 +131,7 @@ pub fn add_shared<'s, S: Store>(
         &places,
         shared.numbers.as_slice(),
         tallies,
-        rows,
+        block.from,
     )?;
     Ok(())
 }

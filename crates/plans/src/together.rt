@@ -80,47 +80,20 @@ fn scan_tables<S: Store + Sync, R: Threads + Sync>(
         → GroupsAreKept (slice_index_or plans.now k d) (rows_between (S.tables store.now) 0 most (slice_index_or plans.now k d))
         most (slice_index_or groups.new k e)) }
 {
+    let pieces = store.pieces();
     let mut scanned = [false; 256];
     for plan in plans {
         let table = plan.table;
         if scanned[table as usize] {
             continue;
         }
-        if !scan_table(rt, alloc, store, plans, classes, table, most, groups)? {
+        let parts = scan_pieces(rt, alloc, store, plans, classes, table, pieces)?;
+        if !merge_pieces(store, plans, table, pieces, parts, most, groups)? {
             return Ok(false);
         }
         scanned[table as usize] = true;
     }
     Ok(true)
-}
-
-/// Adds the rows of a table to the groups of the plans on it, which have none yet. Answers whether the
-/// store lends them; nothing is known of the groups if it does not. Fails only if out of memory, or of
-/// numbers for groups.
-fn scan_table<S: Store + Sync, R: Threads + Sync>(
-    rt: &R,
-    alloc: Global,
-    store: &S,
-    plans: &[Plan],
-    classes: &[usize],
-    table: u8,
-    most: usize,
-    groups: &mut [Groups],
-) -> Result<bool, AllocError>
-    requires whole { S.is_whole store.now ≡ true }
-    requires checked { AllByRecursion (λ plan. checked (shape_in (S.tables store.now)) plan ≡ Ok tt) plans.now }
-    requires classes { AreClasses plans.now classes.now }
-    requires most { length (rows_of (S.tables store.now) table) ≤ most }
-    requires sizes { length groups.old ≡ length plans.now }
-    requires opening { (k : ℕ) (d : AnyPlan) (e : GroupList) → k < length plans.now → (slice_index_or plans.now k d).table ≡ table
-        → slice_index_or groups.old k e ≡ opening_groups (slice_index_or plans.now k d) }
-    ensures { IfOk result (λ all. all ≡ true → (k : ℕ) (d : AnyPlan) (e : GroupList) → k < length plans.now
-        → LooksAt (S.tables store.now) (slice_index_or plans.now k d) table 0 most (slice_index_or groups.old k e)
-        (slice_index_or groups.new k e)) }
-{
-    let pieces = store.pieces();
-    let parts = scan_pieces(rt, alloc, store, plans, classes, table, pieces)?;
-    merge_pieces(store, plans, table, pieces, parts, most, groups)
 }
 
 /// What is computed of each piece of a table, of so many: each scanned in a thread of its own if there

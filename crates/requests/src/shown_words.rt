@@ -8,9 +8,6 @@ const SHOWN_MAX: usize = 80;
 /// What stands for the rest of a word that is too long.
 const REST: &str = "..";
 
-/// How many bytes the number of a control character takes, as `\u{1b}`, at most.
-const CONTROL_LEN: usize = 6;
-
 /// How many bytes at the front of a word decide how it is shown: where it is shown, a letter takes no fewer bytes than in the word,
 /// and one that is cut here comes after those that are shown.
 const FRONT_LEN: usize = SHOWN_MAX + 4;
@@ -68,10 +65,10 @@ fn letters_within(word: &str, most: usize) -> usize {
     count
 }
 
-/// How many bytes a letter takes where it is shown, at most.
+/// How many bytes a letter takes where it is shown: a control character takes those of its number, as `\u{9}` or `\u{1b}`.
 fn shown_len(letter: char) -> usize {
     if letter.is_control() {
-        CONTROL_LEN
+        letter.escape_unicode().count()
     } else {
         letter.len_utf8()
     }

@@ -16,7 +16,7 @@ const FORBIDDEN: &str =
     "HTTP/1.1 403 Forbidden\r\ncache-control: no-store\r\ncontent-type: text/plain; charset=us-ascii\r\ncontent-length: 7\r\n\r\norigin\n";
 
 /// Requests, and what each is answered.
-const DENIED: [(&str, &str); 14] = [
+const DENIED: [(&str, &str); 16] = [
     (
         "GET http://evil/status HTTP/1.1\r\nHost: localhost\r\n\r\n",
         BAD,
@@ -56,6 +56,14 @@ const DENIED: [(&str, &str); 14] = [
     ),
     (
         "GET / HTTP/1.1\r\nHost: localhost\r\nSec-Fetch-Site: same-site\r\n\r\n",
+        FORBIDDEN,
+    ),
+    (
+        "GET / HTTP/1.1\r\nHost: localhost\r\nOrigin: http://localhost\r\nOrigin: http://evil.example\r\n\r\n",
+        FORBIDDEN,
+    ),
+    (
+        "GET / HTTP/1.1\r\nHost: localhost\r\nSec-Fetch-Site: none\r\nSec-Fetch-Site: cross-site\r\n\r\n",
         FORBIDDEN,
     ),
 ];

@@ -1,6 +1,6 @@
 //! Scenarios of `service`, by its public calls: connections over sockets in memory, which give and take bytes in
 //! pieces, would wait or fail at each of their calls in turn, and are too slow or ask for too much; and connections
-//! of the loopback that are handed to threads.
+//! of the loopback that are handed to threads, or answered in rounds that take long.
 #![tactic(auto)]
 
 #[cfg(test)]
@@ -15,6 +15,8 @@ mod driving;
 mod echo;
 #[cfg(test)]
 mod failures;
+#[cfg(test)]
+mod houses;
 #[cfg(test)]
 mod memory_socket;
 #[cfg(test)]

@@ -3,7 +3,7 @@ use Rattle.std.specs.Prelude.{◌≡◌, ℕ, Bool, true, false, not, ◌||◌, 
 use Rattle.std.specs.Prelude.{nat_lt, nat_le, slice_index, Option, Some, None, is_some, option_map, if◌then◌else◌}
 use Rattle.std.specs.List.{prefix_len}
 use Rattle.std.specs.Char.{is_ascii_digit}
-use Rattle.http_header.specs.HeaderMap.{get}
+use Rattle.http_header.specs.HeaderMap.{get, get_all}
 use Rattle.http.specs.declared.request.Request.{Request}
 use Rattle.http.specs.Request.{head_of}
 use Rattle.http_uri.specs.Uri.{uri_scheme, uri_authority}
@@ -17,6 +17,10 @@ use Rattle.service.specs.declared.denial.Denial.TheVariants.{Target, Host, Origi
 -- the bytes of a request's first field of this name
 abbrev pub field_of : Request (List ℕ) → List ℕ → Option (List ℕ)
 field_of request name = option_map (λ value. value.bytes) (get (head_of request).headers name)
+
+-- the request has more than one field of this name
+abbrev pub is_repeated : Request (List ℕ) → List ℕ → Bool
+is_repeated request name = nat_lt 1 (length (get_all (head_of request).headers name))
 
 -- a digit or a full stop: the bytes of an IPv4 address
 abbrev pub is_dotted : ℕ → Bool
@@ -52,12 +56,17 @@ abbrev pub is_foreign_site : Option (List ℕ) → Bool
 is_foreign_site None = false
 is_foreign_site (Some site) = bytes_eq site (codes "cross-site") || bytes_eq site (codes "same-site")
 
+-- the request says more than once of which place its page is; a browser says it once
+abbrev pub is_ambiguous : Request (List ℕ) → Bool
+is_ambiguous request = is_repeated request (codes "origin") || is_repeated request (codes "sec-fetch-site")
+
 -- why a request is denied, if it is
 abbrev pub denial_of : Request (List ℕ) → Option Denial
 denial_of request =
     let host = field_of request (codes "host") in
     if is_some (uri_scheme (head_of request).uri) || is_some (uri_authority (head_of request).uri) then Some Target
     else if is_foreign_host host then Some Host
+    else if is_ambiguous request then Some Origin
     else if is_foreign_origin host (field_of request (codes "origin")) then Some Origin
     else if is_foreign_site (field_of request (codes "sec-fetch-site")) then Some Origin
     else None

@@ -1,9 +1,11 @@
 -- How long connections wait, and for what.
-use Rattle.std.specs.Prelude.{◌≡◌, ◌⊎◌, ℕ, ◌-◌, Bool, false, ◌||◌, List, length, nat_lt, Option, Some, None, if◌then◌else◌}
+use Rattle.std.specs.Prelude.{◌≡◌, ◌⊎◌, ℕ, ◌+◌, ◌-◌, ◌^◌, min, max, nat_lt, Bool, true, false, not, ◌||◌, ◌&&◌, if◌then◌else◌}
+use Rattle.std.specs.Prelude.{List, length, map, sum_by, Option, Some, None, is_none}
 use Rattle.http_server.specs.Connection.{history}
 use Rattle.service.specs.declared.guest.Guest.{Guest}
 use Rattle.service.specs.declared.guest.Leaving.{Leaving}
 use Rattle.service.specs.declared.limits.Limits.{Limits}
+use Rattle.service.specs.declared.listening_time.ListeningTime.{ListeningTime}
 
 -- more than so many milliseconds have passed since then; they have not, if that time is not noted yet
 abbrev pub has_passed : ℕ → Option ℕ → ℕ → Bool
@@ -40,3 +42,38 @@ is_late limits now guest = is_late_with limits now guest guest.leaving
 abbrev pub left_at : Limits → ℕ → Option Guest → Option Guest
 left_at limits now None = None
 left_at limits now (Some guest) = if guest.is_gone || is_late limits now guest then None else Some guest
+
+-- how many bytes of requests a connection held at once, at most
+abbrev pub most_at : Option Guest → ℕ
+most_at None = 0
+most_at (Some guest) = guest.most
+
+-- the same of all connections, in all; numbers end at 2^64 - 1
+abbrev pub held_by : List (Option Guest) → ℕ
+held_by guests = min (sum_by most_at guests) (2 ^ 64 - 1)
+
+-- a connection without a request and without an answer that waits, which held more bytes than are kept for one
+abbrev pub holds_spare : Guest → Bool
+holds_spare guest = is_none guest.begun && (nat_lt 65536 guest.most && not (nat_lt 0 (length (history guest.connection).pending)))
+
+-- what it is once its bytes are to be released: gone
+abbrev pub released_at : Option Guest → Option Guest
+released_at None = None
+released_at (Some guest) = if holds_spare guest then Some (record guest { is_gone = true }) else Some guest
+
+-- all connections, of which each that holds bytes to spare is gone, if they hold so many in all
+abbrev pub released : ℕ → List (Option Guest) → List (Option Guest)
+released held_max guests = if nat_lt (held_by guests) held_max then guests else map released_at guests
+
+-- what is left at each place: nothing, if its connection is gone, holds bytes to spare while all hold too many, or has waited for longer
+-- than it may
+abbrev pub cleared : Limits → ℕ → List (Option Guest) → List (Option Guest)
+cleared limits now guests = map (left_at limits now) (released limits.held_bytes guests)
+
+-- How long connections were listened to after a turn that took until the clock shows so much: 250 ms more, at most, so that the time of
+-- answering others does not count. A clock that goes back counts nothing; numbers end at 2^64 - 1.
+abbrev pub after_turn : ListeningTime → ℕ → ListeningTime
+after_turn time shown = record {
+  shown = max time.shown shown;
+  listened = min (time.listened + min (shown - time.shown) 250) (2 ^ 64 - 1);
+}

@@ -4,7 +4,7 @@ ghost use Rattle.std.specs.Prelude.{◌≡◌, ◌≤◌, [], ◌∷◌, ◌++�
 ghost use Rattle.std.specs.List.{prefix_len};
 ghost use Rattle.http_server.specs.Response.{IsBlank, IsResponse, fields_of};
 ghost use Rattle.service.specs.Denials.{field_of, is_dotted, ends_at, is_localhost, is_own_host, is_foreign_host, is_foreign_origin};
-ghost use Rattle.service.specs.Denials.{is_foreign_site, denial_of, uncached, IsDenied};
+ghost use Rattle.service.specs.Denials.{is_foreign_site, is_repeated, is_ambiguous, denial_of, uncached, IsDenied};
 ghost use Rattle.service.specs.declared.denial.Denial.TheVariants.{Target, Host, Origin};
 
 use crate::denial::Denial;
@@ -14,6 +14,9 @@ use http::{HeaderName, HeaderValue, Request, StatusCode};
 use http_server::Response;
 use http1::text::eq_ignore_case;
 use std::alloc::AllocError;
+
+/// The field by which a browser tells of which place a page is.
+const SITE: &str = "sec-fetch-site";
 
 /// The kind of a text.
 const PLAIN: &str = "text/plain; charset=us-ascii";
@@ -30,10 +33,10 @@ pub(crate) fn denial_of(request: &Request<Bytes>) -> Option<Denial>
     if is_foreign_host(host) {
         return Some(Denial::Host);
     }
-    if is_foreign_origin(host, field_of(request, ORIGIN)) {
+    if is_ambiguous(request) || is_foreign_origin(host, field_of(request, ORIGIN)) {
         return Some(Denial::Origin);
     }
-    let site = field_of(request, HeaderName::from_static("sec-fetch-site"));
+    let site = field_of(request, HeaderName::from_static(SITE));
     if is_foreign_site(site) {
         Some(Denial::Origin)
     } else {
@@ -49,6 +52,21 @@ fn field_of(request: &Request<Bytes>, name: HeaderName) -> Option<&[u8]>
         Some(value) => Some(value.as_bytes()),
         None => None,
     }
+}
+
+/// Whether the request says more than once of which place its page is. A browser says it once, and who reads a
+/// request of two takes the one or the other.
+fn is_ambiguous(request: &Request<Bytes>) -> bool
+    ensures { result ≡ is_ambiguous request.now }
+{
+    is_repeated(request, ORIGIN) || is_repeated(request, HeaderName::from_static(SITE))
+}
+
+/// Whether the request has more than one field of this name.
+fn is_repeated(request: &Request<Bytes>, name: HeaderName) -> bool
+    ensures { result ≡ is_repeated request.now name }
+{
+    request.headers().get_all(name).iter().count() > 1
 }
 
 fn is_foreign_host(host: Option<&[u8]>) -> bool

@@ -16,7 +16,7 @@ pub trait Arrivals {
 }
 
 /// Tells of no connection.
-#[derive(Clone, Copy, Debug, PartialEq, Eq)]
+#[derive(Clone, Copy, PartialEq, Eq)]
 pub struct NoArrivals;
 
 impl Arrivals for NoArrivals {

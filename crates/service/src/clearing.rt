@@ -1,7 +1,7 @@
 //! Connections that end, and connections that have something to do.
 
-ghost use Rattle.std.specs.Prelude.{◌≡◌};
-ghost use Rattle.service.specs.Waits.{left_at};
+ghost use Rattle.std.specs.Prelude.{◌≡◌, map};
+ghost use Rattle.service.specs.Waits.{left_at, released, released_at};
 
 use crate::guest::Guest;
 use crate::limits::Limits;
@@ -10,8 +10,21 @@ use crate::round::{first_reader, held_bytes};
 /// How many bytes a connection without a request may have held at most, where all hold too many.
 const KEPT_BYTES: usize = 65_536;
 
-/// What is left at a place: nothing, if its connection is gone, or has waited for longer than it may.
-pub(crate) fn clear_at(place: &mut Option<Guest>, limits: &Limits, now: u64)
+/// Ends each connection that is gone, or has waited for longer than it may. How many.
+pub(crate) fn clear_all(guests: &mut [Option<Guest>], limits: &Limits, now: u64) -> u64
+    ensures { guests.new ≡ map (left_at limits.now now) guests.old }
+{
+    let mut ended: u64 = 0;
+    for index in 0..guests.len() {
+        if clear_at(&mut guests[index], limits, now) {
+            ended = ended.saturating_add(1);
+        }
+    }
+    ended
+}
+
+/// Ends the connection at a place, if it is gone, or has waited for longer than it may. Whether it ended one.
+fn clear_at(place: &mut Option<Guest>, limits: &Limits, now: u64) -> bool
     ensures { place.new ≡ left_at limits.now now place.old }
 {
     let is_over = match place {
@@ -21,21 +34,31 @@ pub(crate) fn clear_at(place: &mut Option<Guest>, limits: &Limits, now: u64)
     if is_over {
         *place = None;
     }
+    is_over
 }
 
 /// Marks connections as gone that hold a large block and no request, if all hold too many bytes.
-pub(crate) fn release_blocks(guests: &mut [Option<Guest>], held_max: usize) {
+pub(crate) fn release_blocks(guests: &mut [Option<Guest>], held_max: usize)
+    ensures { guests.new ≡ released held_max guests.old }
+{
     if held_bytes(guests) < held_max {
         return;
     }
     for index in 0..guests.len() {
-        if let Some(guest) = &mut guests[index]
-            && guest.begun.is_none()
-            && guest.most > KEPT_BYTES
-            && !guest.connection.wants_write()
-        {
-            guest.is_gone = true;
-        }
+        release_at(&mut guests[index]);
+    }
+}
+
+/// Marks a connection as gone, if it holds a large block and no request.
+fn release_at(place: &mut Option<Guest>)
+    ensures { place.new ≡ released_at place.old }
+{
+    if let Some(guest) = place
+        && guest.begun.is_none()
+        && guest.most > KEPT_BYTES
+        && !guest.connection.wants_write()
+    {
+        guest.is_gone = true;
     }
 }
 

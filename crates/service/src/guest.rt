@@ -24,7 +24,7 @@ const WRITES_MAX: u32 = 64;
 const LEAVING_BYTES: usize = 65_536;
 
 /// What came of reading a connection.
-#[derive(Clone, Copy, PartialEq, Eq, Debug)]
+#[derive(Clone, Copy, PartialEq, Eq)]
 pub(crate) enum Heard {
     /// All that had come was read.
     All,
@@ -35,7 +35,7 @@ pub(crate) enum Heard {
 }
 
 /// What came of writing to a connection.
-#[derive(Clone, Copy, PartialEq, Eq, Debug)]
+#[derive(Clone, Copy, PartialEq, Eq)]
 pub(crate) enum Told {
     /// All that waited was sent.
     All,
@@ -50,7 +50,7 @@ pub(crate) enum Told {
 /// A connection that has been answered for the last time: its writing has ended, and what its
 /// client still sends is read and dropped, since a socket that is closed with unread bytes is reset
 /// and may lose the answer.
-#[derive(Clone, Copy, PartialEq, Eq, Debug)]
+#[derive(Clone, Copy, PartialEq, Eq)]
 pub(crate) struct Leaving {
     /// When its last answer was sent; `None` until that time is noted.
     pub(crate) since: Option<u64>,

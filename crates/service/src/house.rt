@@ -5,6 +5,7 @@ ghost use Rattle.service.specs.Denials.{WithDenials};
 
 use crate::clock::millis_since;
 use crate::limits::Limits;
+use crate::listening_time::ListeningTime;
 use crate::readiness::Readiness;
 use crate::refused::refuse;
 use crate::rounds::{Counts, Rounds};
@@ -39,6 +40,8 @@ pub struct House<S: Settle + Drop> {
     listener: TcpListener,
     readiness: Readiness,
     opened: Instant,
+    /// The limits of connections count this time, and not the clock's.
+    listening: ListeningTime,
     /// Whether a connection may wait of which the listener does not tell again.
     may_have_more: bool,
     rounds: Rounds<S, TcpStream>,
@@ -85,6 +88,7 @@ impl<S: Settle + Drop> House<S> {
             listener,
             readiness,
             opened,
+            listening: ListeningTime::new(),
             may_have_more: false,
             rounds: Rounds::new(alloc, keys, limits, service),
         })
@@ -104,7 +108,8 @@ impl<S: Settle + Drop> House<S> {
     }
 
     /// One round: waits for an event, 100 ms at most, reads what has come, has it answered, has that
-    /// settled, and sends; then ends the connections that are done or late.
+    /// settled, and sends; then ends the connections that are done or late. The time of a long round is
+    /// no reason to end one.
     ///
     /// After a fault the house is good for nothing more.
     pub fn turn<R: Clock>(&mut self, rt: &R) -> Result<(), HouseFault>
@@ -120,7 +125,8 @@ impl<S: Settle + Drop> House<S> {
         if let Err(error) = self.readiness.wait(wait) {
             return Err(HouseFault::Wait(error));
         }
-        let now = millis_since(rt, &self.opened);
+        let shown = millis_since(rt, &self.opened);
+        let now = self.listening.count_turn(shown);
         self.rounds.note(&self.readiness);
         if self.readiness.has_come || self.may_have_more {
             self.accept(now);

@@ -12,8 +12,8 @@
 //! make in a browser are denied before the service sees them, as are targets that name another
 //! host. What is sent on a connection is what `http_server` says of it. Limits end a connection:
 //! of the time for a request, without a request, and while nobody reads an answer, and of the bytes
-//! that all connections hold. Not promised: that a connection is heard, that an event of the system
-//! comes, or anything about a socket or a clock.
+//! that all connections hold. A house counts the time in which it listens. Not promised: that a
+//! connection is heard, that an event of the system comes, or anything about a socket or a clock.
 //!
 //! It knows nothing of a database, and uses `http_server` for connections and `mio` for the
 //! readiness of sockets. The definitions to review are `specs/Denials.antt`, `Rounds` and
@@ -31,6 +31,7 @@ mod hall;
 mod held;
 mod house;
 mod limits;
+mod listening_time;
 mod readiness;
 mod refused;
 mod round;

@@ -8,7 +8,7 @@ use http_server::Config;
 const BODY_LEN_MAX: usize = 5_242_880;
 
 /// The limits of a listener and its connections. Times are in milliseconds.
-#[derive(Clone, Copy, Debug, PartialEq, Eq)]
+#[derive(Clone, Copy, PartialEq, Eq)]
 pub struct Limits {
     /// How many connections there are at once, at most.
     pub connections: usize,

@@ -3,6 +3,7 @@
 ghost use Rattle.std.specs.Prelude.{◌≡◌, map, MatchResult, IsFalse};
 ghost use Rattle.service.specs.Denials.{WithDenials};
 ghost use Rattle.service.specs.Rounds.{Leads, HasEnded, IsLost, IsUnsent, sent_at, calls_at};
+ghost use Rattle.service.specs.Waits.{held_by, most_at};
 
 use crate::arrivals::Arrivals;
 use crate::guest::{Guest, Heard, Told};
@@ -195,7 +196,9 @@ fn tell_at<T: Socket>(place: &mut Option<Guest>, socket: &mut Option<T>, now: u6
 }
 
 /// The most bytes of requests that each connection held at once, in all: it keeps its largest block.
-pub(crate) fn held_bytes(guests: &[Option<Guest>]) -> usize {
+pub(crate) fn held_bytes(guests: &[Option<Guest>]) -> usize
+    ensures { result ≡ held_by guests.now }
+{
     let mut held: usize = 0;
     for place in guests {
         held = held.saturating_add(most_at(place));
@@ -203,7 +206,9 @@ pub(crate) fn held_bytes(guests: &[Option<Guest>]) -> usize {
     held
 }
 
-fn most_at(place: &Option<Guest>) -> usize {
+fn most_at(place: &Option<Guest>) -> usize
+    ensures { result ≡ most_at place.now }
+{
     match place {
         Some(guest) => guest.most,
         None => 0,

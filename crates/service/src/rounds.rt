@@ -1,11 +1,12 @@
 //! The connections of one thread.
 
-ghost use Rattle.std.specs.Prelude.{◌≡◌, [], MatchResult};
+ghost use Rattle.std.specs.Prelude.{◌≡◌, ◌⊎◌, [], ◌∷◌, ◌++◌, None, IfOk, IfSome, MatchResult};
 ghost use Rattle.service.specs.Denials.{WithDenials};
 ghost use Rattle.service.specs.Rounds.{HasEnded, IsLost};
+ghost use Rattle.service.specs.Waits.{cleared};
 
 use crate::arrivals::{Arrivals, note_ready};
-use crate::clearing::{clear_at, is_any_ready, release_blocks};
+use crate::clearing::{clear_all, is_any_ready, release_blocks};
 use crate::guest::Guest;
 use crate::held::Held;
 use crate::limits::Limits;
@@ -16,7 +17,7 @@ use std::alloc::{AllocError, Global};
 use std::hash::RandomState;
 
 /// What happened so far; each counts up to the greatest number.
-#[derive(Clone, Copy, PartialEq, Eq, Debug, Default)]
+#[derive(Clone, Copy, PartialEq, Eq, Default)]
 pub struct Counts {
     /// Rounds that were settled.
     pub rounds: u64,
@@ -40,12 +41,13 @@ pub struct Rounds<S: Settle + Drop, T: Socket + Drop> {
 }
 
 impl<S: Settle + Drop, T: Socket + Drop> Rounds<S, T> {
-    ghost use Rattle.service.specs.Places.{service_of, guests_of};
+    ghost use Rattle.service.specs.Places.{service_of, guests_of, limits_of, IsFree, IsFull};
 
     /// No connection. Takes no memory. The names of fields are kept in maps with these keys.
     pub fn new(alloc: Global, keys: RandomState, limits: Limits, service: S) -> Rounds<S, T>
         ensures service { service_of result ≡ service }
         ensures guests { guests_of result ≡ [] }
+        ensures limits { limits_of result ≡ limits }
     {
         Rounds {
             alloc,
@@ -64,7 +66,10 @@ impl<S: Settle + Drop, T: Socket + Drop> Rounds<S, T> {
     /// A place for one connection more, if there is one: for `seat` at once. Fails only if out of
     /// memory.
     pub fn free_place(&mut self) -> Result<Option<usize>, AllocError>
-        ensures { service_of self.new ≡ service_of self.old }
+        ensures service { service_of self.new ≡ service_of self.old }
+        ensures free { IfOk result (λ found. IfSome found (IsFree (guests_of self.new))) }
+        ensures full { IfOk result (λ found. found ≡ None → IsFull (limits_of self.old) (guests_of self.new)) }
+        ensures kept { (guests_of self.new ≡ guests_of self.old) ⊎ (guests_of self.new ≡ guests_of self.old ++ None ∷ []) }
     {
         for place in 0..self.guests.len() {
             if self.guests[place].is_none() {
@@ -147,19 +152,16 @@ impl<S: Settle + Drop, T: Socket + Drop> Rounds<S, T> {
         heard
     }
 
-    /// Ends the connections that are done, have failed, or have waited for longer than they may.
+    /// Ends the connections that are done, have failed, or have waited for longer than they may; and those
+    /// that hold bytes to spare, if all hold too many.
     pub fn clear(&mut self, now: u64)
-        ensures { service_of self.new ≡ service_of self.old }
+        ensures service { service_of self.new ≡ service_of self.old }
+        ensures guests { guests_of self.new ≡ cleared (limits_of self.old) now (guests_of self.old) }
     {
         release_blocks(&mut self.guests, self.limits.held_bytes);
-        for place in 0..self.guests.len().min(self.sockets.len()) {
-            let was = self.guests[place].is_some();
-            clear_at(&mut self.guests[place], &self.limits, now);
-            if was && self.guests[place].is_none() {
-                self.sockets[place] = None;
-                self.counts.ended = self.counts.ended.saturating_add(1);
-            }
-        }
+        let ended = clear_all(&mut self.guests, &self.limits, now);
+        self.counts.ended = self.counts.ended.saturating_add(ended);
+        drop_without_guest(&mut self.sockets, &self.guests);
     }
 
     /// The socket at a place, if a connection is there.
@@ -204,5 +206,14 @@ impl<S: Settle + Drop, T: Socket + Drop> Rounds<S, T> {
 
     pub fn counts(&self) -> Counts {
         self.counts
+    }
+}
+
+/// Drops the socket of each place without a connection.
+fn drop_without_guest<T: Drop>(sockets: &mut [Option<T>], guests: &[Option<Guest>]) {
+    for place in 0..sockets.len().min(guests.len()) {
+        if guests[place].is_none() {
+            sockets[place] = None;
+        }
     }
 }

@@ -1,6 +1,6 @@
 -- Drafts, and why steps are refused, on a list and on a longer one.
 use Rattle.std.proofs.Common.{◌≡◌, refl, ap, sym, ◌∙◌, subst, arith, ℕ, suc, ◌+◌, ◌<◌, ◌≤◌, Bool, true, false, not, nat_lt, if◌then◌else◌}
-use Rattle.std.proofs.Common.{List, [], ◌∷◌, ◌++◌, length, get_or, drop, drop-cons, Result, Ok, Err, IfOk, Some, slice_get, is_some, is_ok}
+use Rattle.std.proofs.Common.{List, [], ◌∷◌, ◌++◌, length, get_or, drop, drop-cons, Result, Ok, Err, Some, slice_get, is_some, is_ok}
 use Rattle.std.proofs.Common.{inl, inr}
 use Rattle.std.proofs.Math.Numerals.{suc-eq-add-one}
 use mathlib.Core.List.{IsPrefix}
@@ -18,22 +18,18 @@ use Rattle.mvcc.specs.Transaction.{Transaction}
 use Rattle.mvcc.specs.Transactions.{get_answer, match_table, match_column, column_kind, column_offset, seen_shape, sees}
 use Rattle.primary.specs.declared.ticket.Ticket.{Ticket}
 use Rattle.desk.specs.Answers.{Stands}
-use Rattle.desk.specs.State.{SeatState}
 use Rattle.sockets.specs.declared.change.Change.{Change}
 use Rattle.sockets.specs.declared.change.Change.TheVariants.{Insert, Set, Delete, AddColumn}
 use Rattle.sockets.specs.declared.drafting.Stop.{Stop}
 use Rattle.sockets.specs.declared.drafting.Stop.TheVariants as stops
-use Rattle.sockets.specs.declared.faults.WorkersFault.{WorkersFault}
 use Rattle.sockets.specs.declared.job.Job.{Job}
-use Rattle.sockets.specs.declared.job_answer.JobAnswer.{JobAnswer}
-use Rattle.sockets.specs.declared.job_answer.JobAnswer.TheVariants as answers
 use Rattle.sockets.specs.declared.refusal.Refusal.{Refusal}
 use Rattle.sockets.specs.declared.refusal.Refusal.TheVariants as refusals
 use Rattle.sockets.specs.declared.step.Step.{Step}
 use Rattle.sockets.specs.declared.step.Step.TheVariants as steps
-use Rattle.sockets.specs.Answers.{IsDraft, IsCommitted, IsStepRefused, IsRefused, IsJobAnswer, IsSeatAfter}
+use Rattle.sockets.specs.Answers.{IsDraft, IsCommitted, IsStepRefused, IsRefused}
 use Rattle.sockets.specs.Changes.{change_answer, condition_answer, has_value, is_missing, refused_at, step_answer, steps_answer, and_then}
-use Rattle.sockets.specs.Inner.Jobs.{IsStop, IsStopped, IsUncommitted}
+use Rattle.sockets.specs.Inner.Jobs.{IsStop, IsStopped}
 use Rattle.sockets.specs.JobSeats.{IsPending}
 use Rattle.sockets.proofs.Beginnings.{prefix_length, take-begun}
 
@@ -278,19 +274,3 @@ pending-stands shape from list job ticket p stands = record {
       stands ∙ (ap (λ w. Some (record { worker = w; entries = ticket.entries })) p.worker
       ∙ ap (λ es. Some (record { worker = job.worker; entries = es })) p.entries);
 }
-
--- what is acknowledged of a job whose commit was pending: its ticket
-pub acknowledged-answer : (shape : Shape) (from : ℕ) (mid all : List Commit) (job : Job) (ticket : Ticket)
-    (result : Result JobAnswer WorkersFault) → IsPending shape from mid job ticket → IsPrefix mid all
-    → IfOk result (λ answer. (answer ≡ answers.Ticket ticket.number) × Stands all ticket) → IfOk result (IsJobAnswer shape from all job)
-acknowledged-answer shape from mid all job ticket (Ok answer) pending begins is =
-    subst (IsJobAnswer shape from all job) (sym is.0)
-    (pending-stands shape from all job ticket (pending-begun shape from from mid all job ticket (omega arith) begins pending) is.1)
-acknowledged-answer shape from mid all job ticket (Err fault) pending begins is = tt
-
--- a seat at which nothing was committed is one after an answer without a ticket
-pub seat-uncommitted : (old new : SeatState) (answer : JobAnswer) → IsUncommitted answer → new ≡ record old { list = new.list }
-    → IsSeatAfter old new answer
-seat-uncommitted old new (answers.Ticket number) without is = absurd without
-seat-uncommitted old new (answers.Conflict number) without is = is
-seat-uncommitted old new (answers.Refused refusal) without is = is

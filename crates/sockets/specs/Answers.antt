@@ -1,12 +1,11 @@
 -- What a job is answered, by the list of commits that its seat has seen.
-use Rattle.std.specs.Prelude.{◌≡◌, ℕ, ◌+◌, ◌<◌, ◌≤◌, List, [], length, true, Ok, Err, Some, is_ok}
+use Rattle.std.specs.Prelude.{◌≡◌, ℕ, ◌<◌, ◌≤◌, List, [], length, true, Ok, Err, Some, is_ok}
 use Rattle.rows.specs.declared.commit.Commit.{Commit}
 use Rattle.rows.specs.Commits.{tables_after}
 use Rattle.rows.specs.Shape.{Shape}
 use Rattle.rows.specs.Tables.{apply_entries}
 use Rattle.mvcc.specs.Transaction.{Transaction}
 use Rattle.desk.specs.Answers.{commit_at}
-use Rattle.desk.specs.State.{SeatState}
 use Rattle.sockets.specs.declared.job.Job.{Job}
 use Rattle.sockets.specs.declared.job_answer.JobAnswer.{JobAnswer}
 use Rattle.sockets.specs.declared.job_answer.JobAnswer.TheVariants.{Ticket, Conflict, Refused}
@@ -63,18 +62,3 @@ abbrev pub IsJobAnswer : Shape → ℕ → List Commit → Job → JobAnswer →
 IsJobAnswer shape from list job (Ticket number) = IsCommitted shape from list job number
 IsJobAnswer shape from list job (Conflict number) = IsInConflict shape from list job number
 IsJobAnswer shape from list job (Refused refusal) = IsRefused shape from list job.steps.items refusal
-
--- a seat after a job that was answered: a ticket is above its last one and adds one to its share; without one nothing but its
--- list has changed, so that nothing was committed
-abbrev pub IsSeatAfter : SeatState → SeatState → JobAnswer → Type 0
-IsSeatAfter old new (Ticket number) =
-    (old.last < number) × (new ≡ record old { list = new.list; last = number; share = old.share + 1 })
-IsSeatAfter old new (Conflict number) = new ≡ record old { list = new.list }
-IsSeatAfter old new (Refused refusal) = new ≡ record old { list = new.list }
-
--- a seat after a job that a fault ended: it may have got a ticket, which is not acknowledged
-pub record IsSeatLeft (old new : SeatState) : Type 0 where
-  pub number : new.number ≡ old.number
-  pub last : old.last ≤ new.last
-  pub share : old.share ≤ new.share
-  pub more : new.share ≤ old.share + 1

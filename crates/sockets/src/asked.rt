@@ -7,7 +7,7 @@ ghost use Rattle.sockets.specs.Asking.{nothing_asked, told, version_at, noted, n
 use wire::{ASK_LEN, Datagram, Out, read};
 
 /// What a replica asked for last: its boot, the number of its request, and the version that it was told.
-#[derive(Clone, Copy, Debug, PartialEq, Eq)]
+#[derive(Clone, Copy, PartialEq, Eq)]
 pub struct Asked {
     pub boot: u64,
     pub request: u64,

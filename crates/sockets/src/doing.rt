@@ -1,11 +1,10 @@
-//! One job at a seat.
+//! One job at a seat: its commit, the flush that makes that durable, and its ticket.
 
 ghost use Rattle.std.specs.Prelude.{◌≡◌, ◌<◌, length, IfOk, IfErr, MatchResult};
 ghost use mathlib.Core.List.{IsPrefix};
 ghost use Rattle.rows.specs.Shape.{shape_of};
 ghost use Rattle.journal.specs.Recovery.{IsJournaled};
 ghost use Rattle.desk.specs.Answers.{Stands};
-ghost use Rattle.sockets.specs.Answers.{IsJobAnswer, IsSeatAfter, IsSeatLeft};
 ghost use Rattle.sockets.specs.Inner.Jobs.{IsAttempt, IsSeatTried};
 
 use crate::drafting::{Stop, drafted};
@@ -27,46 +26,6 @@ pub(crate) enum Attempt {
     Pending(Ticket),
     /// It is not committed, and this is its answer: a conflict or a refusal.
     Answered(JobAnswer),
-}
-
-/// Does one job at a seat: begins a transaction, makes the job's changes and looks at its conditions
-/// in their order, commits it for the job's worker, makes everything pending durable, and settles the
-/// ticket. The gate is notified before and after the commit; `index` is the job's number for the gate.
-/// It may wait.
-///
-/// `Ticket`: each condition held in the transaction as it was where the condition stands, the commit
-/// is durable, and the seat has seen it under that number. `Conflict`: the commit is refused because
-/// of the last one above its snapshot that touches one of its rows, or where one of the two adds a
-/// column to a table in which the other has an entry. `Refused`: a change is refused or a condition
-/// does not hold, in which case the answer has the number of that step; or the job has no change, a
-/// number is used up, or what is published could not be read, even when it was tried again 1000
-/// times. Nothing is committed then.
-///
-/// Fails with `Journal` if the journal failed, before or while this commit was written, or with
-/// `Memory` if out of memory, also for publishing what is durable. The job may then have been
-/// committed, and may be durable or become durable, but that was not reported: only a ticket is
-/// acknowledged. `NoSeat` never occurs.
-pub fn do_job<L: Origin, J: JournalStore + Drop, R: Wait + Drop, W: Wait, G: Gate>(
-    rt: &W,
-    alloc: Global,
-    line: &Line<L, J, R>,
-    seat: &mut Seat<L>,
-    index: usize,
-    job: &Job,
-    gate: &G,
-) -> Result<JobAnswer, WorkersFault>
-    requires { job.now.worker < L.workers }
-    ensures legal { IsJournaled L.workers (shape_of L.schema) seat.new.list }
-    ensures later { IsPrefix seat.old.list seat.new.list }
-    ensures answer { IfOk result (IsJobAnswer (shape_of L.schema) (length seat.old.list) seat.new.list job.now) }
-    ensures seat { MatchResult result (IsSeatAfter seat.old seat.new) (λ fault. IsSeatLeft seat.old seat.new) }
-    ensures fault { IfErr result (λ fault. ¬ (fault ≡ WorkersFault.NoSeat)) }
-{
-    match commit_job(rt, alloc, line, seat, index, job, gate) {
-        Ok(Attempt::Pending(ticket)) => acknowledged(rt, line, seat, &ticket),
-        Ok(Attempt::Answered(answer)) => Ok(answer),
-        Err(fault) => Err(fault),
-    }
 }
 
 /// Drafts a job at a seat, and commits the draft for the job's worker: the commit is then pending. The
@@ -115,28 +74,6 @@ fn refused(refusal: Refusal) -> Attempt
     ensures { result ≡ Attempt.Answered (JobAnswer.Refused refusal) }
 {
     Attempt::Answered(JobAnswer::Refused(refusal))
-}
-
-/// Makes everything pending durable, and acknowledges the ticket of a commit if the commit is settled:
-/// it is then durable, and the seat has seen it under its number. It may wait.
-///
-/// Fails as `flushed` and `settled` do; the commit may then be durable.
-fn acknowledged<L: Origin, J: JournalStore + Drop, R: Wait + Drop, W: Wait>(
-    rt: &W,
-    line: &Line<L, J, R>,
-    seat: &mut Seat<L>,
-    ticket: &Ticket,
-) -> Result<JobAnswer, WorkersFault>
-    ensures legal { IsJournaled L.workers (shape_of L.schema) seat.new.list }
-    ensures later { IsPrefix seat.old.list seat.new.list }
-    ensures same { seat.new ≡ record seat.old { list = seat.new.list } }
-    ensures answer { IfOk result (λ answer. (answer ≡ JobAnswer.Ticket ticket.now.number) × Stands seat.new.list ticket.now) }
-    ensures fault { IfErr result (λ fault. ¬ (fault ≡ WorkersFault.NoSeat)) }
-{
-    match flushed(rt, line, seat) {
-        Ok(()) => settled(rt, line, seat, ticket),
-        Err(fault) => Err(fault),
-    }
 }
 
 /// Makes everything pending durable. It may wait.

@@ -1,13 +1,10 @@
 //! The images that a replica's node fetches, as it counts them.
 
-use crate::under_way::KIND_AT;
+use crate::under_way::is_piece;
 use dispatcher::Got;
 
-/// The kind of a piece, in a datagram's bytes.
-const PIECE_KIND: u8 = 5;
-
 /// What came of an image.
-#[derive(Clone, Copy, Debug, PartialEq, Eq)]
+#[derive(Clone, Copy, PartialEq, Eq)]
 pub struct FetchedImage {
     /// Its base: the image is that of the tables after so many commits.
     pub base: u64,
@@ -58,7 +55,7 @@ impl ImageCount {
 
     /// Counts a datagram that was taken, if it is a piece.
     fn count(&mut self, bytes: &[u8]) {
-        if bytes.get(KIND_AT) != Some(&PIECE_KIND) {
+        if !is_piece(bytes) {
             return;
         }
         if let Some(image) = &mut self.image {

@@ -128,9 +128,12 @@ impl<L: Origin> JobSeat<L> {
     /// or in conflict while something is pending is done again after that is settled; only the second
     /// answer counts.
     ///
-    /// The gate is notified before and after each commit; `index` is the job's number for the gate. Fails
-    /// as `do_job` does. If what was pending was to be settled, some of it may then stay unanswered: fewer
-    /// jobs are taken than before. Otherwise nothing is lost.
+    /// The gate is notified before and after each commit; `index` is the job's number for the gate.
+    ///
+    /// Fails with `Journal` if the journal failed, or with `Memory` if out of memory, also for publishing
+    /// what is durable; the job is then not committed. If what was pending was to be settled, some of it
+    /// may then stay unanswered: fewer jobs are taken than before. Otherwise nothing is lost. `NoSeat`
+    /// never occurs.
     pub fn takes<J: JournalStore + Drop, R: Wait + Drop, W: Wait, G: Gate>(
         &mut self,
         rt: &W,

@@ -9,10 +9,10 @@
 //! batch's report. Both give out single turns, each of which
 //! continues where the last one stopped, and count what goes through their port. `serve_primary`
 //! and `serve_replica` are loops over these turns, the latter with queries from a queue. A `Job` is
-//! a set of changes that are committed together, and the worker that does it: `do_job` does one at
-//! a seat of a line, a `JobSeat` several that share flushes, `run_crew` lets many workers do their
-//! jobs, each in a thread of its own, and `run_workers` is its short form. A `Gate` is notified before
-//! and after each commit.
+//! a set of changes that are committed together, and the worker that does it: a `JobSeat` does jobs
+//! at a seat of a line, where they share flushes, `run_crew` lets many workers do their jobs, each in a
+//! thread of its own, and `run_workers` is its short form. A `Gate` is notified before and after each
+//! commit.
 //!
 //! Promised, for every port: what a node does is a list of acts, each one call of its core, which
 //! lead from the state before to the state after. If the port is honest, the acts took in exactly
@@ -71,7 +71,6 @@ mod worker;
 pub use asked::Asked;
 pub use change::Change;
 pub use crew::{run_crew, run_workers};
-pub use doing::do_job;
 pub use drafting::{TRIES_AGAIN, begun, looked};
 pub use drain::Drain;
 pub use faults::{PortFault, ServeFault, WorkersFault};

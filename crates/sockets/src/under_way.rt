@@ -19,11 +19,20 @@ const LATE_MOST: u64 = 256;
 /// How often in a row one place is asked for before another version is.
 const TRIES_MAX: u32 = 16;
 
-/// Where the kind of a datagram stands in its bytes, and the kind of a frame; where a frame's worker stands, where its seq
-/// does, and how many bytes there are up to its end.
-pub const KIND_AT: usize = 3;
+/// For how many quiet turns answers are awaited, at most, before they are late for the first time.
+const PATIENCE_MAX: u32 = 16;
+
+/// After how many quiet turns more they are late again, at most. So one place is asked for over a second at least before
+/// another version is, and its answer may take that long.
+const QUIET_STEP_MAX: u32 = 8;
+
+/// Where the kind of a datagram stands in its bytes, and the kinds of a frame and of a piece; where a frame's worker stands,
+/// where its seq does, and how many bytes there are up to its end.
+const KIND_AT: usize = 3;
 
 const FRAME_KIND: u8 = 1;
+
+const PIECE_KIND: u8 = 5;
 
 const WORKER_AT: usize = 6;
 
@@ -56,11 +65,16 @@ impl Wanted {
     }
 }
 
+/// Whether these bytes are a piece's, if they are a datagram's.
+pub fn is_piece(bytes: &[u8]) -> bool {
+    bytes.get(KIND_AT) == Some(&PIECE_KIND)
+}
+
 /// What a replica's node has under way, and when its answers are late.
 ///
 /// Time is counted in datagrams that come, which needs no clock: while frames are pushed, as many come between
 /// an Ask and its Head as a round trip takes, and an answer is late after twice as many and 8 more. Where
-/// nothing comes for a moment all answers are late.
+/// nothing comes it is counted in quiet turns.
 #[derive(Drop)]
 pub struct UnderWay {
     /// How many datagrams have come.
@@ -69,6 +83,13 @@ pub struct UnderWay {
     round_trip: u64,
     asked: Option<Asked>,
     wants: [Option<Wanted>; WANTS_MAX],
+    /// How many turns in a row nothing new has come, while an answer was awaited.
+    quiet: u32,
+    /// After how many of them Wants and Pulls are late for the first time: not more than a round trip takes, since it is
+    /// not known whether what came last answers the first one that was sent, or one that was sent again.
+    patience: u32,
+    /// After how many of them they are late next.
+    late_quiet: u32,
     /// Whether they are Pulls.
     are_pulls: bool,
     /// The first place that was missing when it was looked last, and how many Wants or Pulls were sent for it in a row.
@@ -97,6 +118,9 @@ impl UnderWay {
             round_trip: 0,
             asked: None,
             wants: [None; WANTS_MAX],
+            quiet: 0,
+            patience: 1,
+            late_quiet: 1,
             are_pulls: false,
             first: None,
             tries: 0,
@@ -110,12 +134,33 @@ impl UnderWay {
 
     /// Notes that these bytes came, which the replica answered so.
     pub fn note(&mut self, bytes: &[u8], got: Got) {
+        // A piece that is known answers a Pull that was repeated too early. Such answers would make others late.
+        if matches!(got, Got::Repeat) && is_piece(bytes) {
+            return;
+        }
         self.came = self.came.saturating_add(1);
         match got {
-            Got::Head(_) => self.note_head(),
-            Got::Stored | Got::Repeat | Got::Ahead => self.note_frame(bytes),
+            Got::Head(_) => {
+                self.end_quiet();
+                self.note_head();
+            }
+            Got::Stored => {
+                self.end_quiet();
+                self.note_frame(bytes);
+            }
+            Got::Repeat | Got::Ahead => self.note_frame(bytes),
             _ => {}
         }
+    }
+
+    /// Notes that something new came. If turns were quiet before, an answer may take as many. Three quarters of them are
+    /// awaited, so that this goes back to one where answers are lost and do not take long.
+    fn end_quiet(&mut self) {
+        if self.quiet > 0 {
+            self.patience = (self.quiet.saturating_mul(3) / 4).clamp(1, PATIENCE_MAX);
+        }
+        self.quiet = 0;
+        self.late_quiet = self.patience;
     }
 
     /// Notes that a frame came with these bytes, if it is one. Pieces are sent for a Pull alone.
@@ -152,17 +197,30 @@ impl UnderWay {
         }
     }
 
-    /// Notes that nothing came for a moment: what was under way is late.
+    /// Notes that nothing came in a turn: an Ask that is under way is late, and no frame is on its way any more. Wants and
+    /// Pulls are late after some such turns in a row, each time after more.
     pub fn note_silence(&mut self) {
+        let has_wants = self.wants.iter().any(Option::is_some);
+        let is_awaiting = has_wants || self.asked.is_some();
         if let Some(asked) = &mut self.asked {
             asked.late = 0;
         }
-        if self.wants.iter().any(Option::is_some) {
+        self.pushed_until = [0; WORKERS_MAX as usize];
+        self.looked_at = None;
+        if !is_awaiting {
+            self.quiet = 0;
+            self.late_quiet = self.patience;
+            return;
+        }
+        self.quiet = self.quiet.saturating_add(1);
+        if self.quiet < self.late_quiet {
+            return;
+        }
+        self.late_quiet = self.quiet.saturating_add(self.quiet.min(QUIET_STEP_MAX));
+        if has_wants {
             self.narrow();
         }
         self.wants = [None; WANTS_MAX];
-        self.pushed_until = [0; WORKERS_MAX as usize];
-        self.looked_at = None;
     }
 
     /// Whether an Ask may be sent: none is under way, or its answer is late.

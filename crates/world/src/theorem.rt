@@ -26,10 +26,11 @@ pub fn allowed_runs_are_exact()
     steps_are_told();
 }
 
-/// Whatever the world allows for possible events is, as users see it, a run of the database: a list
-/// of commits that only grows; replicas that are each at a version of it, and go back to an older
-/// version only when they are restarted; and batches that are each answered at the version fetched
-/// for them, which is at least as new as the list was when they asked. No code takes part.
+/// Whatever the world allows for possible events is, as users see it, a run of the database, in which
+/// replicas may renew a version that was fetched: a list of commits that only grows; replicas that are
+/// each at a version of it, and go back to an older version only when they are restarted; and batches
+/// that are each answered at the version fetched for them last, which is at least as new as the list
+/// was when they asked first. No code takes part.
 pub fn runs_are_of_database()
     ensures { RunsAreOfDatabase }
 {

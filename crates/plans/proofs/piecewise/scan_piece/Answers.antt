@@ -1,13 +1,24 @@
 -- The rows of each block come behind those before it.
-use Rattle.std.proofs.Common.{◌≡◌, ◌+◌, ◌≤◌, ◌++◌, length, take, sym, ◌∙◌, subst, arith}
+use Rattle.std.proofs.Common.{◌≡◌, ℕ, List, ◌+◌, ◌≤◌, ◌++◌, length, take, sym, ◌∙◌, subst, arith}
 use Rattle.std.proofs.lemmas.List.{take_all}
-use Rattle.rows.specs.Tables.{rows_of}
+use Rattle.rows.specs.Tables.{Rows, Tables, rows_of}
 use Rattle.store.specs.Lent.{rows_in}
-use Rattle.plans.specs.Inner.BlockRows.{rows_of_block}
+use Rattle.queries.specs.declared.plan.Plan.{Plan}
+use Rattle.plans.specs.declared.block.Block.{Block}
+use Rattle.plans.specs.declared.scan.Scan.{Scan}
+use Rattle.plans.specs.Inner.BlockRows.{IsFrom, rows_of_block}
 use Rattle.plans.specs.Inner.Scans.{IsScan, AreKeptFor}
 use Rattle.plans.proofs.Pieces.{no-ids}
 use Rattle.plans.proofs.ScannedRows.{piece-within, rows-behind}
 use Rattle.plans.proofs.piecewise.scan_piece.Goals as goal
+
+-- a scan of a table's rows before an index is one of those of the block's table before the block's index
+at-block : (tables : Tables) (plans : List Plan) (classes : List ℕ) (block : Block) (table pieces piece from : ℕ) (rows : Rows)
+    (scan : Scan) → IsFrom block table pieces piece from → IsScan tables plans classes table rows from scan
+    → IsScan tables plans classes block.table rows block.from scan
+at-block tables plans classes block table pieces piece from rows scan place is =
+    subst (λ count. IsScan tables plans classes block.table rows count scan) (sym place.4)
+    (subst (λ table. IsScan tables plans classes table rows from scan) (sym place.0) is)
 
 pub loop-block-init : goal.loop-block-init
 loop-block-init g c = record {
@@ -30,17 +41,16 @@ add-requires-clause-scan g c = λ _ _.
     let tables = g.S.Store.tables c.args.store.now in
     let here = rows_in (rows_of tables c.args.table) c.args.pieces c.args.piece in (
       take c.loop-block.from here,
-      subst
-          (λ table. IsScan tables c.args.plans.now c.args.classes.now table (take c.loop-block.from here) c.loop-block.from
-          c.loop-block.scan)
-          (sym c.in-Some.ensures.place.0) c.loop-block.invariant.scan,
+      at-block tables c.args.plans.now c.args.classes.now c.in-Some.block c.args.table c.args.pieces c.args.piece c.loop-block.from
+          (take c.loop-block.from here) c.loop-block.scan c.in-Some.ensures.place c.loop-block.invariant.scan,
     )
 
 pub add-requires-clause-few : goal.add-requires-clause-few
 add-requires-clause-few g c =
     let rows = rows_of (g.S.Store.tables c.args.store.now) c.args.table in
     let all = piece-within rows c.args.pieces c.args.piece in
-    omega (arith, all, c.in-Some.ensures.within, c.len-len.ensures, c.len-len.type_inv)
+    let from = c.in-Some.ensures.place.4 in
+    omega (arith, all, from, c.in-Some.ensures.within, c.len-len.ensures, c.len-len.type_inv)
 
 pub loop-block-preserved : goal.loop-block-preserved
 loop-block-preserved g c =
@@ -50,10 +60,13 @@ loop-block-preserved g c =
     let block = c.in-Some.block in
     let place = c.in-Some.ensures.place in
     let given =
+    at-block tables c.args.plans.now c.args.classes.now block c.args.table c.args.pieces c.args.piece from (take from here)
+    c.loop-block.scan place c.loop-block.invariant.scan in
+    let next =
     subst
-    (λ table. IsScan tables c.args.plans.now c.args.classes.now table (take from here) from c.loop-block.scan)
-    (sym place.0) c.loop-block.invariant.scan in
-    let next = c.in_ok-add.ensures (take from here) given in
+    (λ count. IsScan tables c.args.plans.now c.args.classes.now block.table (take from here ++ rows_of_block tables block)
+    (count + length block.ids.now) c.add.new.self)
+    place.4 (c.in_ok-add.ensures (take from here) given) in
     let here_next =
     subst
     (λ table. IsScan tables c.args.plans.now c.args.classes.now table (take from here ++ rows_of_block tables block)

@@ -19,13 +19,15 @@ pub loop-plan-init : goal.loop-plan-init
 loop-plan-init g c = record {
   numberings = c.requires.numberings;
   tallies_size = c.requires.sizes;
-  shared_size = c.requires.shared.sizes;
+  shared_size = ap length c.as_mut_slice-shared.ensures.value ∙ c.in_ok-list.ensures.sizes;
   shared = λ r e d o lt.
       subst (λ (held : Option (SharedRows _)). IfSome held (IsShared (g.S.Store.tables c.args.store.now)
       (g.S.Store.values_at c.args.store.now)
-      c.args.block.now (get_or c.args.plans.now r e) (keys_at c.args.numberings.now r d))) (sym (c.requires.shared.none r o lt)) tt;
+      c.args.block.now (get_or c.args.plans.now r e) (keys_at c.args.numberings.now r d)))
+      (sym (ap (λ (list : List (Option (SharedRows _))). get_or list r o) c.as_mut_slice-shared.ensures.value
+      ∙ c.in_ok-list.ensures.none r o lt)) tt;
   scanned = λ scanned are.
-      added-none (g.S.Store.tables c.args.store.now) c.args.plans.now c.args.classes.now c.args.block.now scanned c.args.rows
+      added-none (g.S.Store.tables c.args.store.now) c.args.plans.now c.args.classes.now c.args.block.now scanned c.args.block.now.from
       c.args.numberings.now c.args.tallies.now are;
 }
 
@@ -67,7 +69,7 @@ add_plan-requires-clause-scanned g c = λ _ _.
     let class = get_or c.args.classes.now i 0 in
     let scanned = c.requires.scanned.0 in (
       scanned,
-      subst (λ (p : Plan). IsScanned tables p (keys_at c.loop-plan.numberings class numbering) scanned c.args.rows
+      subst (λ (p : Plan). IsScanned tables p (keys_at c.loop-plan.numberings class numbering) scanned c.args.block.now.from
           (get_or c.loop-plan.tallies i tallies)) (sym c.index-plans-plan.is)
           ((c.loop-plan.invariant.scanned scanned c.requires.scanned.1 i 0 numbering plan tallies c.loop-plan-test.true
           (ap (λ (p : Plan). p.table) (sym c.index-plans-plan.is) ∙ c.if-this-block.false)).1 (omega arith)),
@@ -112,21 +114,21 @@ loop-plan-preserved g c =
       scanned = λ scanned are.
           let added = kept.scanned scanned are in
           let before =
-          subst (λ (p : Plan). IsScanned tables p (keys_at numberings class old) scanned c.args.rows
+          subst (λ (p : Plan). IsScanned tables p (keys_at numberings class old) scanned block.from
           (get_or c.loop-plan.tallies i c.index-tallies-plan.result))
           (sym c.index-plans-plan.is)
           ((added i 0 old plan c.index-tallies-plan.result lt (ap (λ (p : Plan). p.table) (sym c.index-plans-plan.is)
           ∙ c.if-this-block.false)).1
           (omega arith)) in
-          added-more tables plans classes block scanned c.args.rows i numberings c.loop-plan.tallies added class new
+          added-more tables plans classes block scanned block.from i numberings c.loop-plan.tallies added class new
           c.add_plan.new.tallies same
           there place
           (λ d. subst (λ (keys : List (List Value)). Extends keys new.keys.items) (held d) c.in_ok-add_plan.ensures.extends)
           (λ e. subst (λ (p : Plan). IsScanned tables p new.keys.items (scanned ++ rows_of_block tables block)
-          (c.args.rows + length block.ids.now) c.add_plan.new.tallies) (this e) (c.in_ok-add_plan.ensures.scanned scanned before));
+          (block.from + length block.ids.now) c.add_plan.new.tallies) (this e) (c.in_ok-add_plan.ensures.scanned scanned before));
     }
 
 pub returns-clause-scanned : goal.returns-clause-scanned
 returns-clause-scanned g c = λ scanned are.
-    added-all (g.S.Store.tables c.args.store.now) c.args.plans.now c.args.classes.now c.args.block.now scanned c.args.rows c.loop-plan.plan
-    c.loop-plan.numberings c.loop-plan.tallies c.loop-plan-test.false (c.loop-plan.invariant.scanned scanned are)
+    added-all (g.S.Store.tables c.args.store.now) c.args.plans.now c.args.classes.now c.args.block.now scanned c.args.block.now.from
+    c.loop-plan.plan c.loop-plan.numberings c.loop-plan.tallies c.loop-plan-test.false (c.loop-plan.invariant.scanned scanned are)

@@ -12,6 +12,6 @@ invariant-loop-plan g l = record {
   shared_size : length l.shared ≡ length l.plans;
   shared : AreShared (g.S.Store.tables l.store) (g.S.Store.values_at l.store) l.block l.plans l.numberings l.shared;
   scanned : (scanned : Rows)
-      → AreScanned (g.S.Store.tables l.store) l.plans l.classes l.block.table scanned l.rows l.initial.numberings l.initial.tallies
-      → AreAdded (g.S.Store.tables l.store) l.plans l.classes l.block scanned l.rows l.plan l.numberings l.tallies;
+      → AreScanned (g.S.Store.tables l.store) l.plans l.classes l.block.table scanned l.block.from l.initial.numberings l.initial.tallies
+      → AreAdded (g.S.Store.tables l.store) l.plans l.classes l.block scanned l.block.from l.plan l.numberings l.tallies;
 }

@@ -111,8 +111,9 @@ add_rows-requires-clause-places g c =
     let rows : List JoinedRow = joined_rows tables (g.S.Store.values_at c.args.store.now) c.args.block.now shared.partners in
     let before = c.requires.scanned.1 in
     let count =
-    (c.in_ok-grow.ensures.shaped plan.aggregates c.args.rows
-    (subst (λ (n : ℕ). IsShaped n c.args.rows plan.aggregates c.args.tallies.now) (sym before.shaped.counts) before.shaped)).counts in
+    (c.in_ok-grow.ensures.shaped plan.aggregates c.args.block.now.from
+    (subst (λ (n : ℕ). IsShaped n c.args.block.now.from plan.aggregates c.args.tallies.now) (sym before.shaped.counts)
+    before.shaped)).counts in
     subst (ArePlaces (length c.grow.new.self.counts.items)) (sym c.as_slice-4.ensures.value)
     (subst (λ (n : ℕ). ArePlaces n shared.numbers.items) (sym (count ∙ ap length c.keys.ensures))
     (numbers-within c.args.numbering.now.keys.items plan.groups rows shared.numbers.items c.requires.shared.numbers))
@@ -122,9 +123,9 @@ add_rows-requires-clause-shaped g c =
     let plan = c.args.plan.now in
     let before = c.requires.scanned.1 in
     let shaped =
-    c.in_ok-grow.ensures.shaped plan.aggregates c.args.rows
-    (subst (λ (n : ℕ). IsShaped n c.args.rows plan.aggregates c.args.tallies.now) (sym before.shaped.counts) before.shaped) in
-    subst (λ (n : ℕ). IsShaped n c.args.rows plan.aggregates c.grow.new.self) (sym shaped.counts) shaped
+    c.in_ok-grow.ensures.shaped plan.aggregates c.args.block.now.from
+    (subst (λ (n : ℕ). IsShaped n c.args.block.now.from plan.aggregates c.args.tallies.now) (sym before.shaped.counts) before.shaped) in
+    subst (λ (n : ℕ). IsShaped n c.args.block.now.from plan.aggregates c.grow.new.self) (sym shaped.counts) shaped
 
 pub add_rows-requires-clause-few : goal.add_rows-requires-clause-few
 add_rows-requires-clause-few g c =
@@ -162,14 +163,14 @@ returns-clause-scanned g c = λ scanned is.
     let numbers = c.as_slice-4.result.now in
     let size = ap length c.as_slice-4.ensures.value ∙ numbers-size keys plan.groups rows shared.numbers.items c.requires.shared.numbers in
     let few = taken-few (λ row. joined_with tables plan.join row.1) (rows_of_block tables block) in
-    let within : c.args.rows + length numbers ≤ c.args.rows + length block.ids.now =
+    let within : block.from + length numbers ≤ block.from + length block.ids.now =
     omega (arith, size, ap length c.requires.shared.rows, few, block-size tables block) in
-    let shaped_before = subst (λ (n : ℕ). IsShaped n c.args.rows plan.aggregates c.args.tallies.now) (sym is.shaped.counts) is.shaped in
-    let grown = c.in_ok-grow.ensures.shaped plan.aggregates c.args.rows shaped_before in
+    let shaped_before = subst (λ (n : ℕ). IsShaped n block.from plan.aggregates c.args.tallies.now) (sym is.shaped.counts) is.shaped in
+    let grown = c.in_ok-grow.ensures.shaped plan.aggregates block.from shaped_before in
     let count : length c.grow.new.self.counts.items ≡ length keys = grown.counts ∙ ap length c.keys.ensures in
     let told : IsTallied plan.groups plan.aggregates keys earlier c.grow.new.self =
     subst (λ (list : List (List Value)). IsTallied plan.groups plan.aggregates list earlier c.grow.new.self) (sym is.split)
-    (c.in_ok-grow.ensures.tallied plan.groups plan.aggregates is.before is.more earlier c.args.rows
+    (c.in_ok-grow.ensures.tallied plan.groups plan.aggregates is.before is.more earlier block.from
     (sym (ap length is.split) ∙ sym (ap length c.keys.ensures))
     (subst (λ (list : List (List Value)). AreDistinct list) is.split (distinct c.args.numbering.now c.requires.numbering))
     shaped_before is.tallied) in
@@ -194,8 +195,8 @@ returns-clause-scanned g c = λ scanned is.
       more = [];
       split = sym (append-nil keys);
       shaped =
-          shaped-more (length keys) (c.args.rows + length numbers) (c.args.rows + length block.ids.now) plan.aggregates new within
-          (subst (λ (n : ℕ). IsShaped n (c.args.rows + length numbers) plan.aggregates new) count c.in_ok-add_rows.ensures.shaped);
+          shaped-more (length keys) (block.from + length numbers) (block.from + length block.ids.now) plan.aggregates new within
+          (subst (λ (n : ℕ). IsShaped n (block.from + length numbers) plan.aggregates new) count c.in_ok-add_rows.ensures.shaped);
       tallied =
           subst (λ (list : List JoinedRow). IsTallied plan.groups plan.aggregates keys list new)
           (ap (λ (list : List JoinedRow). earlier ++ filter (λ row. list_all (meets row) plan.conditions) list) c.requires.shared.rows

@@ -20,11 +20,11 @@ loop-plan-preserved g c =
     let plans = c.args.plans.now in
     let scanned = c.loop-plan.scanned in
     let groups = c.loop-plan.groups in
-    let after = c.scan_table.new.groups in
+    let after = c.merge_pieces.new.groups in
     let i = c.loop-plan.plan-index in
     let table = c.plan-item.result.table in
     let within : table < length scanned = search rules in
-    let looks = c.in_ok-scan_table.ensures c.if-not-branch.false in
+    let looks = c.in_ok-merge_pieces.ensures c.if-not-branch.false in
     record {
       size = length-set scanned table true ∙ c.loop-plan.invariant.size;
       named =

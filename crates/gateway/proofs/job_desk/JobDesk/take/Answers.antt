@@ -30,7 +30,7 @@ returns-then-ne-2 g c = λ kept. (
   (
     [],
     takes-none g.L.Line.workers (shape_of g.L.Line.schema) c.args.self.now.job_seat,
-    λ has. c.tell_no_post.ensures [],
+    λ has. c.tell_no_post.ensures,
     λ no. refl,
   ),
 )

@@ -11,9 +11,9 @@ use Rattle.mvcc.proofs.chains.Chains.push_rows.Given as goal
 abbrev pub invariant-loop-key : goal.invariant-loop-key
 invariant-loop-key l = record {
   done : Chains;
-  whole : done ++ l.key-iterator ≡ chains_within l.table l.from None l.self;
+  whole : done ++ l.key-iterator ≡ chains_within l.place.table l.place.row None l.self;
   count : l.left + length done ≡ l.most;
-  items : l.image.items ≡ l.initial.image.items ++ inserts_of l.table (found_at l.version l.blank done);
+  items : l.image.items ≡ l.initial.image.items ++ inserts_of l.place.table (found_at l.version l.blank done);
   bytes : AllByRecursion (λ row. AreBytes row.1) (found_at l.version l.blank done);
   sorted : Falls l.key-iterator;
 }
