@@ -17,7 +17,7 @@ use std::rt::Files;
 const STREAMS: RawFd = 3;
 
 /// A device that stands for a stream which is missing.
-pub const NULL_DEVICE: &str = "/dev/null";
+const NULL_DEVICE: &str = "/dev/null";
 
 /// Opens the null device for each standard stream that the program was started without. The files are to be
 /// kept as long as it runs: a file that is opened later would get such a stream's descriptor, and be read as

@@ -1,14 +1,11 @@
 //! Standard input that is read without waiting for long, and closed where it ends.
 
-use crate::files::NULL_DEVICE;
 use mio::unix::SourceFd;
 use mio::{Events, Interest, Poll, Token};
 use std::alloc::Global;
-use std::fs::File;
 use std::io::{self, ErrorKind, Read};
 use std::net::Net;
 use std::os::fd::RawFd;
-use std::rt::Files;
 use std::time::Duration;
 
 /// The descriptor of standard input.
@@ -20,24 +17,18 @@ const WAIT_MILLIS: u64 = 10;
 /// A reader of standard input whose reads wait for a moment at most: where nothing came they fail with
 /// `WouldBlock`, so that the thread that reads can see whether it is to end. Where the input ends it is closed.
 #[derive(Drop)]
-pub struct PolledInput<'a, H: Files<File = File>, R: Read + Drop> {
-    host: &'a H,
+pub struct PolledInput<R: Read + Drop> {
     input: R,
     /// `None` for what cannot be waited for, as a regular file, which never makes a reader wait.
     poll: Option<Poll>,
     events: Events,
     has_ended: bool,
-    /// The null device, in the place of an input that has ended.
-    null: Option<File>,
 }
 
-impl<'a, H: Files<File = File>, R: Read + Drop> PolledInput<'a, H, R> {
+impl<R: Read + Drop> PolledInput<R> {
     /// A reader of standard input, which `input` reads.
-    pub fn new(host: &'a H, alloc: Global, input: R) -> io::Result<PolledInput<'a, H, R>>
-    where
-        H: Net,
-    {
-        let poll = Poll::new(host)?;
+    pub fn new<N: Net>(net: &N, alloc: Global, input: R) -> io::Result<PolledInput<R>> {
+        let poll = Poll::new(net)?;
         let events = Events::with_capacity(alloc, 1)?;
         let registered = poll
             .registry()
@@ -47,12 +38,10 @@ impl<'a, H: Files<File = File>, R: Read + Drop> PolledInput<'a, H, R> {
             Err(_) => None,
         };
         Ok(PolledInput {
-            host,
             input,
             poll,
             events,
             has_ended: false,
-            null: None,
         })
     }
 
@@ -69,21 +58,17 @@ impl<'a, H: Files<File = File>, R: Read + Drop> PolledInput<'a, H, R> {
         Ok(!self.events.is_empty())
     }
 
-    /// Closes standard input: a FIFO then has one reader less, so that nobody writes into it what is not read. The null device
-    /// takes its descriptor, or else a file that is opened later would; nothing is read from it any more.
+    /// Closes standard input: a FIFO then has one reader less, so that nobody writes into it what is not read. An empty set of
+    /// events, from which nothing can be read, takes its descriptor, or else a file that is opened later would.
     fn close(&mut self) {
         self.has_ended = true;
         self.poll = None;
         let _ = libc::close(STDIN);
-        self.null = File::options()
-            .read(true)
-            .write(true)
-            .open(self.host, NULL_DEVICE)
-            .ok();
+        let _ = libc::net::epoll_create1(libc::net::EPOLL_CLOEXEC);
     }
 }
 
-impl<'a, H: Files<File = File>, R: Read + Drop> Read for PolledInput<'a, H, R> {
+impl<R: Read + Drop> Read for PolledInput<R> {
     fn read(&mut self, buf: &mut [u8]) -> io::Result<usize> {
         if self.has_ended {
             return Ok(0);
