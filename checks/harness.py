@@ -3,8 +3,8 @@ this word:
 
     [PROGRAM]      another program than crates/batchdb/out/batchdb
 
-checks/hostile, checks/faults and checks/http also share tallies, stories, nodes, and the test of what a journal kept. They take more
-words:
+checks/hostile, checks/faults, checks/http and checks/drawn also share tallies, stories, nodes, and the test of what a journal kept. They
+take more words:
 
     --only PART    one part alone
     --few          a twentieth of the inputs, for a quick look
@@ -39,7 +39,7 @@ ROOT = os.path.dirname(os.path.dirname(os.path.abspath(__file__)))
 PARSER = argparse.ArgumentParser()
 PARSER.add_argument("program", nargs="?", default=f"{ROOT}/crates/batchdb/out/batchdb")
 # These checks have so many inputs that they are divided into parts.
-if os.path.basename(sys.argv[0]) in ("hostile", "faults", "http"):
+if os.path.basename(sys.argv[0]) in ("hostile", "faults", "http", "drawn"):
     PARSER.add_argument("--only", metavar="PART", help="one part alone")
     PARSER.add_argument("--few", action="store_true", help="a twentieth of the inputs, for a quick look")
     PARSER.add_argument("--every", action="store_true", help="all inputs of a part that tries some of them alone")
@@ -411,8 +411,8 @@ def kept_in(tally, name, schema, offered, output, data, before=()):
     return len(found.commits)
 
 
-def main(parts, told):
-    """Runs the parts, or the one that the words name, and prints what differs."""
+def parts_played(parts):
+    """Runs the parts, or the one that the words name, and prints what differs; returns the tally of all."""
     whole = Tally()
     for part in parts:
         if WORDS.only not in (None, part.__name__):
@@ -427,5 +427,11 @@ def main(parts, told):
         seconds = time.monotonic() - start
         print(f"{part.__name__}: {tally.inputs - len(tally.wrong)} of {tally.inputs} in {seconds:.0f} s{outcomes}", flush=True)
         whole.add(tally)
+    return whole
+
+
+def main(parts, told):
+    """Runs the parts, and prints how many inputs were as they are to be."""
+    whole = parts_played(parts)
     print(f"{whole.inputs - len(whole.wrong)} of {whole.inputs} {told} are as they are to be")
     return 1 if whole.wrong or not whole.inputs else 0

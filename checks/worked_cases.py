@@ -1,5 +1,5 @@
 """Scripts that were worked by hand, each event with what it answers: `EVENT -> LINE | LINE`. checks/faults runs each of them with all of
-its memory, and then with each of its requests for memory refused.
+its memory, and then with each of its requests for memory refused. What events may answer then was worked by hand as well.
 """
 
 ONE_TABLE = "workers 2\nreplicas 2\ntable acct int int\n"
@@ -329,6 +329,97 @@ deliver 0 r1 -> ignored
 deliver 2 p -> ignored
 """.replace("00 0000000000000001 0000000000000001", "00" + "0000000000000001" * 2)),
 }
+
+INSERT = "insert 0 acct 7 5 -1"
+BEGUN = "begin -> tx 0 at 0"
+BASED = ROW_7 + "\nbase -> base 1 pieces 1"
+OPENED = "open 0 query acct get count -> opened 1"
+ASKED = OPENED + "\nask 0 -> sent 0 23"
+# The two lines in place of these take the Head of the version.
+HEADED = ASKED + "\ndeliver 0 p -> sent 1 80\ndeliver 1 r0 -> head "
+
+# What happened before, and events that may answer `memory` then; and events that may not, since they ask for none.
+MAY_LACK_MEMORY = {
+    "": (
+        ["open 0 query acct get count", "dump 0", "restart 0 2"],
+        ["version 0", "abort 0", "flush 1", INSERT, "set 0 acct 7 0 1", "delete 0 acct 7", "column 0 acct 3", "get 0 acct 7 0", "commit 0 0",
+         "base", "start", "push 0 0", "deliver 0 r0", "raw r0 -", "show 0", "ask 0", "run 0", "renew 0", "restart 0 1"],
+    ),
+    BEGUN: ([INSERT, "column 0 acct 3", "stop 0"], ["abort 0", "commit 0 0", "get 0 acct 7 0", "set 0 acct 7 0 1", "delete 0 acct 7"]),
+    f"{BEGUN}\n{INSERT} -> ok": (["set 0 acct 7 0 1", "delete 0 acct 7", "commit 0 0"], [INSERT, "get 0 acct 7 0", "abort 0"]),
+    ROW_7_PENDING: (["flush 1"], ["flush 0", "base"]),
+    ROW_7: (["base", "push 0 0"], ["push 0 1"]),
+    BASED: ([], ["base", "push 0 0"]),
+    "stop 0 -> stopped": (["start"], ["base", "stop 0", "begin"]),
+    OPENED: (["ask 0"], ["renew 0"]),
+    ASKED: (["deliver 0 p", "show 0"], ["run 0", "renew 0"]),
+    HEADED + "0": (["run 0", "renew 0"], []),
+    BASED + "\n" + HEADED + "1": (["run 0", "renew 0"], []),
+}
+
+# A commit of which a replica has all and the version; and a replica that goes by image and has its piece.
+ROUND = f"""
+{ROW_7}
+push 0 0 -> sent 0 54
+deliver 0 r0 -> stored
+{OPENED}
+ask 0 -> sent 1 23
+deliver 1 p -> sent 2 80
+deliver 2 r0 -> head 1
+"""
+WITH_IMAGE = f"""
+{ROW_7}
+push 0 0 -> sent 0 54
+base -> base 1 pieces 1
+{OPENED}
+ask 0 -> sent 1 23
+deliver 1 p -> sent 2 80
+deliver 2 r0 -> head 1
+run 0 -> waiting piece 0 | sent 3 23
+deliver 3 p -> sent 4 53
+deliver 4 r0 -> stored
+"""
+REPORT = "version 1 queries 1 | query 0 rows 1 | 1 | "
+
+# What happened before; further events; and what these may print where memory is refused, or with which of them that is wrong: by its
+# number among them, which is behind the last if they print too much. An event that is out of memory changes nothing, but that a run may
+# have brought its replica to the version of its Head; and one that is out of memory there may break the replica. A run by image leaves it
+# before the image or after it: then the frames below the base are known, and the piece is of no use.
+PRINTED_WITHOUT_MEMORY = [
+    (ROUND, ["run 0", "run 0", "version 0"], [
+        (REPORT + "no batch | version 1", None),
+        ("memory | " + REPORT + "version 1", None),
+        ("memory | memory | version 0", None),
+        ("memory | memory | version 1", None),
+        ("memory | memory | version 2", 2),
+        ("memory | broken | version 0", None),
+        ("memory | broken | version 1", 2),
+        ("broken | broken | version 0", None),
+        ("broken | broken | version 1", 2),
+        ("broken | no batch | version 0", 1),
+        (REPORT + "broken | version 1", 1),
+        (REPORT + "no batch | version 0", 2),
+    ]),
+    (WITH_IMAGE, ["run 0", "deliver 0 r0", "deliver 4 r0", "version 0"], [
+        (REPORT + "repeat | ignored | version 1", None),
+        (REPORT + "stored | ignored | version 1", 1),
+        (REPORT + "repeat | repeat | version 1", 2),
+        ("memory | stored | repeat | version 0", None),
+        ("memory | repeat | ignored | version 1", None),
+        ("memory | memory | repeat | version 0", None),
+        ("memory | stored | ignored | version 1", 2),
+        ("memory | repeat | repeat | version 1", 2),
+        ("memory | repeat | ignored | version 0", 3),
+        ("broken | broken | broken | version 0", None),
+    ]),
+    ("", ["begin", INSERT, "commit 0 0", "commit 0 0", "flush 1"], [
+        ("tx 0 at 0 | ok | memory | ticket 1 | durable 1", None),
+        ("tx 0 at 0 | ok | memory | no tx | durable 0", 3),
+        ("tx 0 at 0 | ok | memory | ticket 2 | durable 1", 3),
+        ("tx 0 at 0 | memory | read only | no tx | durable 0", None),
+        ("memory | no tx | no tx | no tx | durable 0 | ok", 5),
+    ]),
+]
 
 
 def case_of(text):
