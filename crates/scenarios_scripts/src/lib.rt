@@ -2,7 +2,11 @@
 #![tactic(auto)]
 
 #[cfg(test)]
+mod long_scripts;
+#[cfg(test)]
 mod old_journals;
+#[cfg(test)]
+mod partitions;
 #[cfg(test)]
 mod script_ends;
 #[cfg(test)]
