@@ -327,6 +327,7 @@ deliver 2 r0 -> ignored
 ask 0 -> busy
 deliver 0 r1 -> ignored
 deliver 2 p -> ignored
+raw p 42440302001700 0000000000000001 0000000000000001 -> sent 3 80
 """.replace("00 0000000000000001 0000000000000001", "00" + "0000000000000001" * 2)),
 }
 
