@@ -10,7 +10,9 @@ QUERIES = 12
 # One more than a query may have of conditions or aggregates.
 PARTS = 9
 # Eight rows of `wide` do not go into one frame. A row of `full` has room for 64 bytes more, and no others.
-TABLES = {"acct": "int int", "item": "int bytes2 bytes1", "site": "bytes2", "wide": "bytes64 int bytes64", "full": "bytes64 " * 6 + "bytes64"}
+TABLES = {
+    "acct": "int int", "item": "int bytes2 bytes1", "site": "bytes2", "wide": "bytes64 int bytes64", "full": " ".join(["bytes64"] * 7),
+}
 SCHEMAS = (("acct", "site"), ("item", "wide"), ("acct", "item", "wide"), ("site", "wide", "acct"), ("full", "site"))
 # What columns hold: identifiers that are there or not, negative numbers, the ends; bytes that are negative where they are signed.
 NUMBERS = (-2, -1, 0, 1, 2, 3, 4, 5, 100, -100, -(2**63), 2**63 - 1)

@@ -343,8 +343,8 @@ HEADED = ASKED + "\ndeliver 0 p -> sent 1 80\ndeliver 1 r0 -> head "
 MAY_LACK_MEMORY = {
     "": (
         ["open 0 query acct get count", "dump 0", "restart 0 2"],
-        ["version 0", "abort 0", "flush 1", INSERT, "set 0 acct 7 0 1", "delete 0 acct 7", "column 0 acct 3", "get 0 acct 7 0", "commit 0 0",
-         "base", "start", "push 0 0", "deliver 0 r0", "raw r0 -", "show 0", "ask 0", "run 0", "renew 0", "restart 0 1"],
+        [INSERT, "set 0 acct 7 0 1", "delete 0 acct 7", "column 0 acct 3", "get 0 acct 7 0", "commit 0 0", "abort 0", "flush 1", "base",
+         "start", "push 0 0", "deliver 0 r0", "raw r0 -", "show 0", "ask 0", "run 0", "renew 0", "version 0", "restart 0 1"],
     ),
     BEGUN: ([INSERT, "column 0 acct 3", "stop 0"], ["abort 0", "commit 0 0", "get 0 acct 7 0", "set 0 acct 7 0 1", "delete 0 acct 7"]),
     f"{BEGUN}\n{INSERT} -> ok": (["set 0 acct 7 0 1", "delete 0 acct 7", "commit 0 0"], [INSERT, "get 0 acct 7 0", "abort 0"]),
