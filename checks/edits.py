@@ -1,4 +1,4 @@
-"""The wrong bodies crates/NAME/must-fail/*.edit: what each changes, and in which functions of its crate.
+"""The wrong bodies crates/NAME/must-fail/*.edit: what each changes, in which functions of its crate, and in which rounds they are tried.
 
 An edit is a line `file: PATH`, and then pairs of lines `old: TEXT` and `new: TEXT`; each old text is in the file exactly once. Functions
 are found by the layout of rt fmt, and named as the prover names them: by the module of their type, and of a trait's method by the type, the
@@ -62,10 +62,10 @@ class Sources:
         indent, name = HEAD.match(lines[first]).groups()
         if not indent:
             return "::".join([*module_of(file), name])
-        above = (IMPL.match(lines[it]) for it in range(first, -1, -1))
-        found = next((it for it in above if it and len(it[1]) < len(indent)), None)
-        if not found:
+        above = impl_above(lines, first)
+        if above is None:
             return None
+        found = IMPL.match(lines[above])
         of_trait = (found["trait"] or "").rpartition("::")[2] + argument_words(found["arguments"] or "", found["type"])
         return "::".join([*self.modules.get(found["type"], module_of(file)), found["type"] + of_trait, name])
 
@@ -86,6 +86,13 @@ def argument_words(arguments, of_type):
 def module_of(file):
     module = re.sub(r"(?:/?(?:lib|main|mod))?\.rt\Z", "", file.removeprefix("src/"))
     return [it for it in module.split("/") if it]
+
+
+def impl_above(lines, first):
+    """The line of the head of the impl or trait that the function is in whose head is this line; None of a free function."""
+    indent = HEAD.match(lines[first])[1]
+    above = ((IMPL.match(lines[it]), it) for it in range(first, -1, -1))
+    return next((it for found, it in above if found and len(found[1]) < len(indent)), None)
 
 
 def head_above(lines, number):
@@ -122,7 +129,8 @@ def opening_of(lines, first, last):
 
 
 class Edit:
-    """A wrong body: its name, what it changes, and the functions that it changes, None for what is outside of them."""
+    """A wrong body: its name, what it changes, and the functions that it changes, None for what is outside of them: for each change, and
+    each once."""
 
     def __init__(self, crate, folder, name, sources):
         self.crate, self.name = crate, name.removesuffix(".edit")
@@ -130,7 +138,8 @@ class Edit:
         self.changes = list(self.read_changes())
         if not self.changes:
             raise Fault(f"{self}: it changes nothing")
-        self.functions = {self.function_of(folder, it, sources) for it in self.changes}
+        self.changed = [self.function_of(folder, it, sources) for it in self.changes]
+        self.functions = set(self.changed)
 
     def __str__(self):
         return f"{self.crate}/{self.name}"
@@ -172,15 +181,16 @@ def edits_of(crate, folder, sources):
     return [Edit(crate, folder, it, sources) for it in names if it.endswith(".edit")]
 
 
-def rounds_of(edits, must_be_alone):
-    """Lays edits out in rounds: in none two edits change one function, or one changes what was changed by another. Returns the rounds, and
-    the edits that are tried alone: those outside functions, and those of functions for which must_be_alone says so."""
+def rounds_of(edits, must_be_alone, may_be_copied):
+    """Lays edits out in rounds: in none two edits change one function, if that may not be copied. Returns the rounds, and the edits that are
+    tried alone: those outside functions, and those of functions for which must_be_alone says so."""
     rounds, alone = [], []
     for edit in edits:
         if any(it is None or must_be_alone(it) for it in edit.functions):
             alone.append(edit)
             continue
-        free = next((it for it in rounds if not any(edit.functions & other.functions for other in it)), None)
+        once = {it for it in edit.functions if not may_be_copied(it)}
+        free = next((it for it in rounds if not any(once & other.functions for other in it)), None)
         if free is None:
             rounds.append([edit])
         else:

@@ -8,6 +8,7 @@ import subprocess
 import tempfile
 
 from edits import Fault, Sources, edits_of, read, rounds_of
+from planting import Planting, may_be_copied
 
 PARTS = ("src", "specs", "proofs")
 # The files of a function's proof that a hole stands for.
@@ -46,7 +47,8 @@ class Crate:
         self.words = self.words_of(built, named)
         self.sources = Sources(self.folder)
         self.edits = edits_of(name, self.folder, self.sources)
-        self.keep = self.cited_proofs()
+        self.cited = self.cited_proofs()
+        self.keep = set(self.cited)
 
     def words_of(self, built, named):
         """The prover's words for a check of the crate, as `rt` gives them."""
@@ -79,8 +81,15 @@ class Crate:
         *above, own = function.path.split("::")
         return os.path.isdir("/".join([self.folder, "proofs", *above, f"+{own}"]))
 
+    def may_be_copied(self, function):
+        """Whether the function may stand once more under another name, also for who names its proof files."""
+        return may_be_copied(self.sources, function) and function.path not in self.cited
+
     def rounds(self):
-        return rounds_of(self.edits, self.is_in_cycle)
+        return rounds_of(self.edits, self.is_in_cycle, self.may_be_copied)
+
+    def planting(self, edits, makes_edits=True):
+        return Planting(self.name, self.folder, self.sources, edits, makes_edits)
 
     def leave_holes(self, copy, changed):
         """Puts a hole in the place of the proof of each function that is not changed, so that it counts by its contract alone."""
@@ -114,18 +123,17 @@ class Crate:
         """Whether a hole stands for the function's proof; one of a cycle of calls keeps its proof."""
         return function.has_body and function.path not in changed | self.keep and not self.is_in_cycle(function)
 
-    def copy_with(self, edits, room):
+    def copy_with(self, planting, room):
         copy = tempfile.mkdtemp(prefix=f"{self.name}-", dir=room)
         for part in PARTS:
             if os.path.isdir(f"{self.folder}/{part}"):
                 shutil.copytree(f"{self.folder}/{part}", f"{copy}/{part}")
-        for edit in edits:
-            edit.apply(copy)
+        planting.make(copy)
         return copy
 
-    def check(self, edits, functions, room, empties=True):
+    def check(self, planting, functions, room, empties=True):
         """Checks a copy with these edits: these functions of it, over holes for the others; or all of it if none is named."""
-        copy = self.copy_with(edits, room)
+        copy = self.copy_with(planting, room)
         words = [f"{self.kit}/bin/rattle", "check", *self.words, "--jobs", "1"]
         if functions:
             self.leave_holes(copy, functions)
@@ -136,19 +144,19 @@ class Crate:
         shutil.rmtree(copy)
         unknown = functions & {it for line in checked.lines for it in UNKNOWN.findall(line)}
         if unknown:
-            return self.check_again(edits, functions - unknown, room, empties, checked, unknown)
+            return self.check_again(planting, functions - unknown, room, empties, checked, unknown)
         unwanted = {it.replace("/", "::") for line in checked.lines for it in UNWANTED.findall(line)} - self.keep
         is_read = not functions or checked.status < 0 or any(it.startswith("only=") for it in checked.lines)
         if not unwanted and (is_read or not empties):
             return checked
         # The prover says so at once, before it proves anything: there is no such hole, or the text is not read, with its bodies or without.
-        return self.check_again(edits, functions, room, empties and bool(unwanted), checked, unwanted)
+        return self.check_again(planting, functions, room, empties and bool(unwanted), checked, unwanted)
 
-    def check_again(self, edits, functions, room, empties, checked, keep):
+    def check_again(self, planting, functions, room, empties, checked, keep):
         """Checks once more, where a check judged nothing: with the proofs of these functions as they are. None is left if the prover knows
         none of them."""
         self.keep |= keep
-        again = self.check(edits, functions, room, empties) if functions else checked
+        again = self.check(planting, functions, room, empties) if functions else checked
         return again._replace(seconds=checked.seconds + again.seconds)
 
 
@@ -167,25 +175,34 @@ def run(words, folder):
         return Checked(started.returncode, said.read().rstrip("\n").split("\n"), used.ru_utime + used.ru_stime)
 
 
-def own_reason(crate, edit, lines):
-    """Why a changed function of the edit is not proved, for a reason of its own, or None. That it calls one that is not proved is none."""
-    for function in edit.functions:
-        said = next((it for it in lines if it.startswith(f"fn {crate.name}::{function.path}: ")), "")
-        if re.match(r"fn \S+: (not proved|no proof)", said):
-            goal = OWN_GOAL.search(said)
-            reason = goal[1] if goal else next(filter(None, (reason_in(function, it) for it in lines)), None)
-            if reason:
-                return f"{function.path}: {reason}"
-    return None
+def own_reason(crate, planting, edit, lines):
+    """Why a function in which the edit is made is not proved, for a reason of its own, or None. There is none in a copy of a function, if
+    the copy without an edit has one too. (In a round without edits each tells.)"""
+    if planting.makes_edits and any(reason_at(crate, it, lines) for it in planting.needed(edit)):
+        return None
+    return next(filter(None, (reason_at(crate, it, lines) for it in planting.places[edit])), None)
 
 
-def unread_edits(edits, lines):
+def reason_at(crate, function, lines):
+    """Why a function is not proved, for a reason of its own, or None. That it calls one that is not proved is none."""
+    said = next((it for it in lines if it.startswith(f"fn {crate.name}::{function.path}: ")), "")
+    if not re.match(r"fn \S+: (not proved|no proof)", said):
+        return None
+    goal = OWN_GOAL.search(said)
+    reason = goal[1] if goal else next(filter(None, (reason_in(function, it) for it in lines)), None)
+    return reason and f"{function.path}: {reason}"
+
+
+def unread_edits(planting, lines):
     """The edits of a round in whose functions the prover read a text that it does not take; none if it judged the round."""
     if any(it.startswith("only=") for it in lines):
         return []
     places = [(it[1], int(it[2])) for it in map(MISREAD.match, lines) if it]
-    functions = {edit: [it for it in edit.functions if it] for edit in edits}
-    return [edit for edit in edits if any(it.file == file and it.first <= line <= it.last for it in functions[edit] for file, line in places)]
+    return [edit for edit, functions in planting.places.items() if any(is_in(it, places) for it in functions if it)]
+
+
+def is_in(function, places):
+    return any(function.file == file and function.first <= line <= function.last for file, line in places)
 
 
 def reason_in(function, line):
