@@ -1,9 +1,9 @@
 //! A listener whose connections are handed to threads.
 
 use crate::hall::Hall;
+use crate::readiness::Readiness;
 use crate::refused::refuse;
 use mio::net::TcpListener;
-use mio::{Events, Interest, Poll, Token};
 use std::alloc::Global;
 use std::io;
 use std::net::{Net, SocketAddr, TcpStream};
@@ -20,8 +20,7 @@ const ACCEPTS_MAX: u32 = 64;
 #[derive(Drop)]
 pub struct Door {
     listener: TcpListener,
-    poll: Poll,
-    events: Events,
+    readiness: Readiness,
     /// Whether a turn ended with connections left, of which the listener does not tell again.
     may_have_more: bool,
     /// Connections for which no thread was free, up to the greatest number.
@@ -33,14 +32,10 @@ impl Door {
     /// out of memory.
     pub fn open<N: Net>(net: &N, alloc: Global, address: SocketAddr) -> io::Result<Door> {
         let mut listener = TcpListener::bind(net, address)?;
-        let poll = Poll::new(net)?;
-        let events = Events::with_capacity(alloc, 1)?;
-        poll.registry()
-            .register(&mut listener, Token(0), Interest::READABLE)?;
+        let readiness = Readiness::new(net, alloc, &mut listener)?;
         Ok(Door {
             listener,
-            poll,
-            events,
+            readiness,
             may_have_more: false,
             refused: 0,
         })
@@ -63,8 +58,7 @@ impl Door {
     /// Fails if the system refuses to wait. A connection that fails at once is dropped.
     pub fn turn<R: Wait>(&mut self, rt: &R, hall: &Hall<TcpStream>) -> io::Result<()> {
         let wait = if self.may_have_more { 0 } else { WAIT_MILLIS };
-        self.poll
-            .poll(&mut self.events, Some(Duration::from_millis(wait)))?;
+        self.readiness.wait(wait)?;
         for _ in 0..ACCEPTS_MAX {
             match self.listener.accept() {
                 Ok((stream, _)) => self.hand_on(rt, hall, TcpStream::from(stream)),

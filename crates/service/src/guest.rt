@@ -283,6 +283,26 @@ impl Guest {
         self.is_ready = true;
     }
 
+    /// Ends the writing, if the last answer was sent.
+    pub(crate) fn leave_if_done<T: Socket>(&mut self, socket: &mut T)
+        ensures { (history self.new.connection) ≡ (history self.old.connection) }
+    {
+        if self.connection.is_done() {
+            self.leave(socket);
+        }
+    }
+
+    /// Notes what came of reading it.
+    pub(crate) fn note_heard(&mut self, heard: Heard)
+        ensures { (history self.new.connection) ≡ (history self.old.connection) }
+    {
+        match heard {
+            Heard::All => self.is_ready = false,
+            Heard::More => {}
+            Heard::Failed => self.is_gone = true,
+        }
+    }
+
     /// Reads and drops what a client still sends.
     pub(crate) fn drain<R: Read>(&mut self, reader: &mut R)
         ensures { (history self.new.connection) ≡ (history self.old.connection) }

@@ -1,12 +1,13 @@
 //! One round of all connections.
 
-ghost use Rattle.std.specs.Prelude.{◌≡◌, map, MatchResult, IsFalse};
+ghost use Rattle.std.specs.Prelude.{◌≡◌, true, false, map, MatchResult, IsFalse};
+ghost use Rattle.http_server.specs.Connection.{history};
 ghost use Rattle.service.specs.Denials.{WithDenials};
 ghost use Rattle.service.specs.Rounds.{Leads, HasEnded, IsLost, IsUnsent, sent_at, calls_at};
 ghost use Rattle.service.specs.Waits.{held_by, most_at};
 
 use crate::arrivals::Arrivals;
-use crate::guest::{Guest, Heard, Told};
+use crate::guest::{Guest, Told};
 use crate::held::Held;
 use crate::socket::Socket;
 use http_server::Settle;
@@ -39,11 +40,26 @@ pub(crate) fn round<S: Settle + Drop, T: Socket, A: Arrivals>(
     if !hear(guests, sockets, service, now, held_max, arrivals) {
         return Ok(false);
     }
+    settle_and_tell(guests, sockets, service, now)?;
+    Ok(true)
+}
+
+/// Has settled what was heard, and then sends it.
+fn settle_and_tell<S: Settle + Drop, T: Socket>(
+    guests: &mut [Option<Guest>],
+    sockets: &mut [Option<T>],
+    service: &mut Held<S>,
+    now: u64,
+) -> Result<(), Unsettled>
+    ensures { MatchResult result
+        (λ _. S.settles service.old.inner true service.new.inner)
+        (λ _. S.settles service.old.inner false service.new.inner × IsUnsent guests.old guests.new) }
+{
     if !service.inner.settle() {
         return Err(Unsettled);
     }
     tell_all(guests, sockets, now);
-    Ok(true)
+    Ok(())
 }
 
 /// Notes the time of what the round before answered or sent, at each connection.
@@ -142,6 +158,20 @@ fn hear_at<S: Settle + Drop, T: Socket>(
     let Some(socket) = socket else {
         return false;
     };
+    hear_guest(guest, socket, service, now, may_read)
+}
+
+fn hear_guest<S: Settle + Drop, T: Socket>(
+    guest: &mut Guest,
+    socket: &mut T,
+    service: &mut Held<S>,
+    now: u64,
+    may_read: bool,
+) -> bool
+    ensures calls { Leads (WithDenials S.answers) service.old.inner service.new.inner }
+    ensures none { IsFalse result → service.new.inner ≡ service.old.inner }
+    ensures unsent { (history guest.new.connection).sent ≡ (history guest.old.connection).sent }
+{
     if !guest.is_ready || guest.is_gone || guest.is_heard {
         return false;
     }
@@ -150,11 +180,8 @@ fn hear_at<S: Settle + Drop, T: Socket>(
         return false;
     }
     guest.is_heard = true;
-    match guest.hear(socket, service, now, may_read) {
-        Heard::All => guest.is_ready = false,
-        Heard::More => {}
-        Heard::Failed => guest.is_gone = true,
-    }
+    let heard = guest.hear(socket, service, now, may_read);
+    guest.note_heard(heard);
     true
 }
 
@@ -178,20 +205,21 @@ fn tell_at<T: Socket>(place: &mut Option<Guest>, socket: &mut Option<T>, now: u6
     let Some(socket) = socket else {
         return;
     };
-    if !guest.is_heard {
-        return;
+    if guest.is_heard {
+        tell_guest(guest, socket, now);
     }
+}
+
+fn tell_guest<T: Socket>(guest: &mut Guest, socket: &mut T, now: u64)
+    ensures { (history guest.new.connection).calls ≡ (history guest.old.connection).calls }
+{
     guest.is_heard = false;
     match guest.tell(socket, now) {
         Told::Failed => guest.is_gone = true,
         // The socket's next event says that it takes more.
         Told::Blocked => guest.is_ready = false,
         Told::More => guest.is_ready = true,
-        Told::All => {
-            if guest.connection.is_done() {
-                guest.leave(socket);
-            }
-        }
+        Told::All => guest.leave_if_done(socket),
     }
 }
 

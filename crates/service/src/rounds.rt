@@ -94,8 +94,9 @@ impl<S: Settle + Drop, T: Socket + Drop> Rounds<S, T> {
         if place >= self.guests.len() || place >= self.sockets.len() {
             return;
         }
-        self.guests[place] = Some(Guest::new(self.alloc, self.keys, self.limits.config, now));
-        self.sockets[place] = Some(socket);
+        let guest = Guest::new(self.alloc, self.keys, self.limits.config, now);
+        put_at(&mut self.guests, place, guest);
+        put_at(&mut self.sockets, place, socket);
     }
 
     /// Counts a connection for which there was no place.
@@ -206,6 +207,13 @@ impl<S: Settle + Drop, T: Socket + Drop> Rounds<S, T> {
 
     pub fn counts(&self) -> Counts {
         self.counts
+    }
+}
+
+/// Gives a value a place, in place of what was there. Without such a place it is dropped.
+fn put_at<T: Drop>(places: &mut [Option<T>], place: usize, value: T) {
+    if place < places.len() {
+        places[place] = Some(value);
     }
 }
 

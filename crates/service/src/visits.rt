@@ -101,9 +101,23 @@ impl<S: Service + Drop> Visits<S> {
             return;
         };
         let mut guest = self.begin(0);
+        self.serve_from(rt, &mut guest, socket, is_over, &begun);
+    }
+
+    /// The same of a connection that has begun.
+    fn serve_from<R: Clock, T: Socket>(
+        &mut self,
+        rt: &R,
+        guest: &mut Guest,
+        socket: &mut T,
+        is_over: &AtomicBool,
+        begun: &Instant,
+    )
+        ensures { Leads (WithDenials S.answers) (visited_of self.old) (visited_of self.new) }
+    {
         // A loop is proved to end, so this one counts its turns.
         for _ in 0..u64::MAX {
-            if !self.step(&mut guest, socket, millis_since(rt, &begun)) {
+            if !self.step(guest, socket, millis_since(rt, begun)) {
                 return;
             }
             if is_over.load(Ordering::SeqCst) && !guest.connection.wants_write() {
@@ -127,14 +141,20 @@ fn tell<T: Socket>(guest: &mut Guest, socket: &mut T, now: u64) -> bool
     if guest.leaving.is_some() {
         return true;
     }
-    match guest.tell(socket, now) {
+    let told = guest.tell(socket, now);
+    goes_on(guest, socket, told)
+}
+
+/// The same, now that what waits was sent as far as it was taken.
+fn goes_on<T: Socket>(guest: &mut Guest, socket: &mut T, told: Told) -> bool
+    ensures { (history guest.new.connection) ≡ (history guest.old.connection) }
+{
+    match told {
         Told::Failed => false,
         Told::Blocked => true,
         Told::More => true,
         Told::All => {
-            if guest.connection.is_done() {
-                guest.leave(socket);
-            }
+            guest.leave_if_done(socket);
             !guest.is_gone
         }
     }

@@ -1,6 +1,6 @@
 use Rattle.service.specs.Denials.{WithDenials}
 use Rattle.service.proofs.ChainLemmas.{Leads-then}
-use Rattle.service.proofs.visits.Visits.serve.Goals as goal
+use Rattle.service.proofs.visits.Visits.serve_from.Goals as goal
 
 pub returns-then-not-step : goal.returns-then-not-step
 returns-then-not-step g c =
