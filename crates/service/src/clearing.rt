@@ -1,6 +1,6 @@
 //! Connections that end, and connections that have something to do.
 
-ghost use Rattle.std.specs.Prelude.{◌≡◌, map};
+ghost use Rattle.std.specs.Prelude.{◌≡◌, None, map};
 ghost use Rattle.service.specs.Waits.{left_at, released, released_at};
 
 use crate::guest::Guest;
@@ -32,9 +32,16 @@ fn clear_at(place: &mut Option<Guest>, limits: &Limits, now: u64) -> bool
         None => false,
     };
     if is_over {
-        *place = None;
+        empty(place);
     }
     is_over
+}
+
+/// Drops what is at a place. What that consists of is nothing to this function, and so not to its proof.
+fn empty<T: Drop>(place: &mut Option<T>)
+    ensures { place.new ≡ None }
+{
+    *place = None;
 }
 
 /// Marks connections as gone that hold a large block and no request, if all hold too many bytes.

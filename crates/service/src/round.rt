@@ -161,6 +161,7 @@ fn hear_at<S: Settle + Drop, T: Socket>(
     hear_guest(guest, socket, service, now, may_read)
 }
 
+/// The same of a connection and its socket.
 fn hear_guest<S: Settle + Drop, T: Socket>(
     guest: &mut Guest,
     socket: &mut T,
@@ -210,6 +211,7 @@ fn tell_at<T: Socket>(place: &mut Option<Guest>, socket: &mut Option<T>, now: u6
     }
 }
 
+/// Sends what waits at a connection.
 fn tell_guest<T: Socket>(guest: &mut Guest, socket: &mut T, now: u64)
     ensures { (history guest.new.connection).calls ≡ (history guest.old.connection).calls }
 {

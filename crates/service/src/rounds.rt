@@ -82,7 +82,7 @@ impl<S: Settle + Drop, T: Socket + Drop> Rounds<S, T> {
         }
         self.guests.reserve(1)?;
         self.sockets.push(None)?;
-        self.guests.push(None)?;
+        self.guests.push_reserved(None);
         Ok(Some(place))
     }
 
