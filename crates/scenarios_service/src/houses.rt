@@ -1,5 +1,6 @@
 //! Houses of the loopback whose rounds take longer than a connection may wait.
 
+use crate::driving::is_sent;
 use crate::echo::Echo;
 use bytes::Bytes;
 use http::Request;
@@ -7,7 +8,7 @@ use http_server::{Response, Settle};
 use service::{House, HouseFault, Limits};
 use std::alloc::{AllocError, Global};
 use std::hash::RandomState;
-use std::io::{self, Read, Write};
+use std::io::{self, Write};
 use std::net::{Ipv4Addr, Net, SocketAddr, TcpStream};
 use std::rt::Clock;
 use std::test::Fail;
@@ -59,22 +60,38 @@ impl<'a, R: Clock> Settle for SlowEcho<'a, R> {
 #[test]
 fn a_request_is_answered_though_others_are_for_long(rt: HostRuntime) -> Result<(), Fail> {
     let mut house = open(&rt, rt.alloc(), RandomState::new(&rt)?)?;
-    let mut client = TcpStream::connect(&rt, house.local_addr()?)?;
-    let mut other = TcpStream::connect(&rt, house.local_addr()?)?;
+    let are_answered = are_two_answered(&rt, &mut house)?;
+    assert!(rt; are_answered);
+    Ok(())
+}
+
+/// Whether both of these clients are answered.
+fn are_two_answered<R: Net + Clock>(
+    rt: &R,
+    house: &mut House<SlowEcho<'_, R>>,
+) -> Result<bool, Fail> {
+    let mut client = TcpStream::connect(rt, house.local_addr()?)?;
+    let mut other = TcpStream::connect(rt, house.local_addr()?)?;
+    send_in_parts(rt, house, &mut client, &mut other)?;
+    Ok(is_sent(&mut client, ANSWER)? && is_sent(&mut other, ANSWER)?)
+}
+
+fn send_in_parts<R: Clock, T: Write>(
+    rt: &R,
+    house: &mut House<SlowEcho<'_, R>>,
+    client: &mut T,
+    other: &mut T,
+) -> Result<(), Fail> {
     let (front, rest) = REQUEST.split_at(REQUEST.len() - 2);
     let (middle, end) = rest.split_at(1);
     client.write_all(front)?;
-    house.turn(&rt)?;
+    house.turn(rt)?;
     other.write_all(REQUEST)?;
-    turn_until(&rt, &mut house, 1)?;
+    turn_until(rt, house, 1)?;
     client.write_all(middle)?;
-    house.turn(&rt)?;
+    house.turn(rt)?;
     client.write_all(end)?;
-    turn_until(&rt, &mut house, 2)?;
-    let answer = rest_of(rt.alloc(), &mut client)?;
-    assert_eq!(rt; answer.as_slice(), ANSWER);
-    let answer = rest_of(rt.alloc(), &mut other)?;
-    assert_eq!(rt; answer.as_slice(), ANSWER);
+    turn_until(rt, house, 2)?;
     Ok(())
 }
 
@@ -82,20 +99,50 @@ fn a_request_is_answered_though_others_are_for_long(rt: HostRuntime) -> Result<(
 #[test]
 fn a_connection_leaves_though_others_are_answered_for_long(rt: HostRuntime) -> Result<(), Fail> {
     let mut house = open(&rt, rt.alloc(), RandomState::new(&rt)?)?;
-    let mut client = TcpStream::connect(&rt, house.local_addr()?)?;
-    let mut other = TcpStream::connect(&rt, house.local_addr()?)?;
+    let (ended, later) = ended_of_two(&rt, &mut house)?;
+    assert_eq!(rt; ended, 0);
+    assert_eq!(rt; later, 2);
+    Ok(())
+}
+
+/// How many of these two connections are ended once both are answered, and how many later.
+fn ended_of_two<R: Net + Clock>(
+    rt: &R,
+    house: &mut House<SlowEcho<'_, R>>,
+) -> Result<(u64, u64), Fail> {
+    let mut client = TcpStream::connect(rt, house.local_addr()?)?;
+    let mut other = TcpStream::connect(rt, house.local_addr()?)?;
+    answer_both(rt, house, &mut client, &mut other)?;
+    let ended = house.counts().ended;
+    turn_until_ended(rt, house)?;
+    Ok((ended, house.counts().ended))
+}
+
+/// Has the one answered, and then the other.
+fn answer_both<R: Clock, T: Write>(
+    rt: &R,
+    house: &mut House<SlowEcho<'_, R>>,
+    client: &mut T,
+    other: &mut T,
+) -> Result<(), Fail> {
     client.write_all(REQUEST)?;
-    turn_until(&rt, &mut house, 1)?;
+    turn_until(rt, house, 1)?;
     other.write_all(REQUEST)?;
-    turn_until(&rt, &mut house, 2)?;
-    house.turn(&rt)?;
-    assert_eq!(rt; house.counts().ended, 0);
+    turn_until(rt, house, 2)?;
+    house.turn(rt)?;
+    Ok(())
+}
+
+/// Turns until both connections are ended.
+fn turn_until_ended<R: Clock>(
+    rt: &R,
+    house: &mut House<SlowEcho<'_, R>>,
+) -> Result<(), HouseFault> {
     for _ in 0..TURNS {
         if house.counts().ended < 2 {
-            house.turn(&rt)?;
+            house.turn(rt)?;
         }
     }
-    assert_eq!(rt; house.counts().ended, 2);
     Ok(())
 }
 
@@ -105,24 +152,19 @@ fn open<R: Net + Clock>(
     alloc: Global,
     keys: RandomState,
 ) -> io::Result<House<SlowEcho<'_, R>>> {
-    let limits = Limits {
-        request_millis: LIMIT_MILLIS,
-        leaving_millis: LIMIT_MILLIS,
-        ..Limits::of(2)
-    };
     let service = SlowEcho {
         rt,
         echo: Echo::new(),
     };
     let address = SocketAddr::from((Ipv4Addr::LOCALHOST, 0));
-    House::open(rt, alloc, keys, address, limits, service)
+    House::open(rt, alloc, keys, address, limits(), service)
 }
 
-/// What a client is sent until its connection ends.
-fn rest_of<T: Read>(alloc: Global, stream: &mut T) -> io::Result<Vec<u8>> {
-    let mut rest = Vec::new(alloc);
-    let _ = stream.read_to_end(&mut rest)?;
-    Ok(rest)
+fn limits() -> Limits {
+    let mut limits = Limits::of(2);
+    limits.request_millis = LIMIT_MILLIS;
+    limits.leaving_millis = LIMIT_MILLIS;
+    limits
 }
 
 /// Turns until so many requests are answered and settled.

@@ -3,12 +3,12 @@
 use crate::echo::Echo;
 use crate::memory_socket::{Habits, MemorySocket, PLAIN, Trouble};
 use service::{Limits, NoArrivals, Rounds};
-use std::alloc::Global;
+use std::alloc::{AllocError, Global};
 use std::hash::RandomState;
 use std::test::Fail;
 
 /// What a client sends, and after how many milliseconds its connection is still there.
-pub const WAITS: [(&str, u64); 4] = [
+pub const WAITS: &[(&str, u64)] = &[
     // Nothing.
     ("", 30_000),
     // A part of a request.
@@ -26,10 +26,11 @@ pub const WAITS: [(&str, u64); 4] = [
 fn connections_end_one_millisecond_past_their_limit(rt: HostRuntime) -> Result<(), Fail> {
     let keys = RandomState::new(&rt)?;
     for (input, limit) in WAITS {
-        let left = connections_after(rt.alloc(), keys, input.as_bytes(), PLAIN, limit)?;
+        let left = connections_after(rt.alloc(), keys, input.as_bytes(), PLAIN, *limit)?;
         assert_eq!(rt; left, 1, "at {limit}");
-        let left = connections_after(rt.alloc(), keys, input.as_bytes(), PLAIN, limit + 1)?;
-        assert_eq!(rt; left, 0, "past {limit}");
+        let past = limit.saturating_add(1);
+        let left = connections_after(rt.alloc(), keys, input.as_bytes(), PLAIN, past)?;
+        assert_eq!(rt; left, 0, "at {past}");
     }
     Ok(())
 }
@@ -73,39 +74,68 @@ fn an_answer_that_nobody_reads_is_awaited_for_its_time(rt: HostRuntime) -> Resul
 #[test]
 fn connections_wait_from_when_a_round_has_ended(rt: HostRuntime) -> Result<(), Fail> {
     let keys = RandomState::new(&rt)?;
-    let input = b"GET / HTTP/1.1\r\nHost: localhost\r\n\r\n";
-    for (now, expected) in [(70_000, 1), (70_001, 0)] {
-        let mut rounds = Rounds::new(rt.alloc(), keys, Limits::of(1), Echo::new());
-        let _ = rounds.free_place()?;
-        rounds.seat(0, MemorySocket::new(rt.alloc(), input, PLAIN), 0);
-        let _ = rounds.round(0, &mut NoArrivals);
-        let _ = rounds.round(40_000, &mut NoArrivals);
-        rounds.clear(40_000);
-        assert_eq!(rt; rounds.connections(), 1, "at 40_000");
-        rounds.clear(now);
-        assert_eq!(rt; rounds.connections(), expected, "at {now}");
+    for (now, expected) in AFTER_LONG_ROUND {
+        let (at_once, left) = connections_after_long_round(rt.alloc(), keys, *now)?;
+        assert_eq!(rt; at_once, 1, "at 40_000");
+        assert_eq!(rt; left, *expected, "at {now}");
     }
     Ok(())
+}
+
+/// After how many milliseconds how many connections are left, the long round's time included.
+const AFTER_LONG_ROUND: &[(u64, usize)] = &[(70_000, 1), (70_001, 0)];
+
+/// How many connections are left of one, right after a round of 40,000 ms, and later.
+fn connections_after_long_round(
+    alloc: Global,
+    keys: RandomState,
+    now: u64,
+) -> Result<(usize, usize), Fail> {
+    let input = b"GET / HTTP/1.1\r\nHost: localhost\r\n\r\n";
+    let mut rounds = Rounds::new(alloc, keys, Limits::of(1), Echo::new());
+    let _ = rounds.free_place()?;
+    rounds.seat(0, MemorySocket::new(alloc, input, PLAIN), 0);
+    let _ = rounds.round(0, &mut NoArrivals);
+    let _ = rounds.round(40_000, &mut NoArrivals);
+    rounds.clear(40_000);
+    let at_once = rounds.connections();
+    rounds.clear(now);
+    Ok((at_once, rounds.connections()))
 }
 
 #[test]
 fn there_are_no_more_connections_than_places(rt: HostRuntime) -> Result<(), Fail> {
     let keys = RandomState::new(&rt)?;
-    let mut rounds: Rounds<Echo, MemorySocket<'static>> = Rounds::new(
-        rt.alloc(),
-        keys,
-        Limits::of(2),
-        Echo::new(),
-    );
-    for place in 0..2 {
-        let free = rounds.free_place()?;
-        assert_eq!(rt; free, Some(place));
-        rounds.seat(place, MemorySocket::new(rt.alloc(), b"", PLAIN), 0);
-    }
-    let free = rounds.free_place()?;
-    assert_eq!(rt; free, None);
-    rounds.clear(30_001);
-    let free = rounds.free_place()?;
-    assert_eq!(rt; free, Some(0));
+    let (first, second, third, cleared) = places_of_two(rt.alloc(), keys)?;
+    assert_eq!(rt; first, Some(0));
+    assert_eq!(rt; second, Some(1));
+    assert_eq!(rt; third, None);
+    assert_eq!(rt; cleared, Some(0));
     Ok(())
+}
+
+/// A place, if one is free.
+type Free = Option<usize>;
+
+/// The places of three clients where there are two, and of one more when these have waited for too long.
+fn places_of_two(alloc: Global, keys: RandomState) -> Result<(Free, Free, Free, Free), Fail> {
+    let mut rounds = Rounds::new(alloc, keys, Limits::of(2), Echo::new());
+    let first = seat_silent(alloc, &mut rounds)?;
+    let second = seat_silent(alloc, &mut rounds)?;
+    let third = seat_silent(alloc, &mut rounds)?;
+    rounds.clear(30_001);
+    let cleared = rounds.free_place()?;
+    Ok((first, second, third, cleared))
+}
+
+/// The place of a client that sends nothing.
+fn seat_silent(
+    alloc: Global,
+    rounds: &mut Rounds<Echo, MemorySocket<'static>>,
+) -> Result<Free, AllocError> {
+    let free = rounds.free_place()?;
+    if let Some(place) = free {
+        rounds.seat(place, MemorySocket::new(alloc, b"", PLAIN), 0);
+    }
+    Ok(free)
 }
