@@ -9,7 +9,7 @@ import os
 import re
 import shutil
 
-from edits import HEAD, IMPL, Fault, Function, depth, impl_above, read
+from edits import IMPL, Fault, Function, depth, impl_above, read
 
 # The name of a function that stands once more.
 AGAIN = "{name}_again{count}"
@@ -101,7 +101,7 @@ def text_of(text, function, name):
         begins -= 1
     head = re.sub(r"\bfn \w+", f"fn {name}", lines[first], count=1)
     own = [*lines[begins:first], head, *lines[first + 1 : function.last]]
-    above = impl_above(lines, first) if HEAD.match(lines[first])[1] else None
+    above = impl_above(lines, first)
     front = [] if above is None else front_of(lines, above)
     ends = [] if above is None else [" " * depth(lines[above]) + "}"]
     return "\n".join(["", *front, *own, *ends, ""]), 1 + len(front) + first - begins
