@@ -171,18 +171,22 @@ fn run_asked<R: Env + Alloc>(rt: &R) -> Run {
     }
 }
 
-#[test]
-fn columns_are_added_to_many_rows(rt: HostRuntime) -> Result<(), Fail> {
-    let alloc = rt.alloc();
-    let mut primary = start(alloc, 1)?;
-    let run = run_asked(&rt);
-    let mut size = fill(&rt, alloc, &mut primary, run)?;
+/// Makes all commits of the run that is asked for, and prints what each took.
+fn time_all(rt: &HostRuntime, primary: &mut PrimaryCore<MemJournal>) -> Result<(), Fail> {
+    let run = run_asked(rt);
+    let mut size = fill(rt, rt.alloc(), primary, run)?;
     for _ in 0..run.times {
         for task in tasks_of(run) {
-            let taken = timed(&rt, alloc, &mut primary, size, task)?;
+            let taken = timed(rt, rt.alloc(), primary, size, task)?;
             size = size_after(size, task);
             println!(rt; "{} {} {} {}", task.word, taken[0], taken[1], taken[2])?;
         }
     }
     Ok(())
+}
+
+#[test]
+fn columns_are_added_to_many_rows(rt: HostRuntime) -> Result<(), Fail> {
+    let mut primary = start(rt.alloc(), 1)?;
+    time_all(&rt, &mut primary)
 }

@@ -1,6 +1,6 @@
 //! A primary of accounts, each two numbers, and steps that it takes.
 
-ghost use Rattle.std.specs.Prelude.{◌≡◌, ◌<◌, ◌≤◌, IfOk};
+ghost use Rattle.std.specs.Prelude.{◌<◌, ◌≤◌};
 ghost use Rattle.rows.specs.Limits.{workers_max};
 
 use crate::accounts::versions_of;
@@ -89,28 +89,40 @@ fn other_step(alloc: Global, workers: u8, story: &[Line]) -> Result<Option<usize
 pub fn start(alloc: Global, workers: u8) -> Result<PrimaryCore<MemJournal>, Fail>
     requires some { 0 < workers }
     requires few { workers ≤ workers_max }
-    ensures { IfOk result (λ primary. primary.primary.workers ≡ workers) }
 {
     let schema = Schema::new(alloc, &NUMBERS)?;
-    match PrimaryCore::start(alloc, MemJournal::new(alloc), &schema, workers) {
+    start_with(alloc, &schema, workers)
+}
+
+/// The same of a schema.
+fn start_with(alloc: Global, schema: &Schema, workers: u8) -> Result<PrimaryCore<MemJournal>, Fail>
+    requires some { 0 < workers }
+    requires few { workers ≤ workers_max }
+{
+    started(PrimaryCore::start(alloc, MemJournal::new(alloc), schema, workers))
+}
+
+/// What was started, or why nothing was.
+fn started<C: Drop, J: Drop, F: Drop>(outcome: Result<C, (J, StartFault<F>)>) -> Result<C, Fail> {
+    match outcome {
         Ok(primary) => Ok(primary),
         Err((_, StartFault::Memory)) => Err("out of memory".into()),
         Err(_) => Err("not started".into()),
     }
 }
 
-/// The index of the first step that a primary answers otherwise.
+/// The index of the first step that a primary of so many workers answers otherwise.
 pub fn other_step_of<J: JournalStore + Drop>(
     alloc: Global,
     workers: u8,
     primary: &mut PrimaryCore<J>,
     story: &[Line],
-) -> Result<Option<usize>, Fail>
-    requires { primary.old.primary.workers ≡ workers }
-    ensures { primary.new.primary.workers ≡ workers }
-{
+) -> Result<Option<usize>, Fail> {
+    if primary.workers() != workers {
+        return Err("no such number of workers".into());
+    }
     for (index, (step, durable, pending)) in story.iter().enumerate() {
-        if !is_answered(alloc, workers, primary, step)? || counts(primary) != (*durable, *pending) {
+        if !is_answered(alloc, primary, step)? || counts(primary) != (*durable, *pending) {
             return Ok(Some(index));
         }
     }
@@ -125,27 +137,17 @@ fn counts<J: JournalStore>(primary: &PrimaryCore<J>) -> (u64, usize) {
 /// Whether this step answers as it should.
 fn is_answered<J: JournalStore + Drop>(
     alloc: Global,
-    workers: u8,
     primary: &mut PrimaryCore<J>,
     step: &Step,
-) -> Result<bool, Fail>
-    requires { primary.old.primary.workers ≡ workers }
-    ensures { primary.new.primary.workers ≡ workers }
-{
+) -> Result<bool, Fail> {
     match step {
         Step::Commit(worker, version, changes, expected) => {
-            if *worker >= workers {
-                return Err("no such worker".into());
-            }
             let transaction = transaction(alloc, primary.versions(), *version, changes)?;
-            Ok(is_committed(primary, transaction, *worker, *expected))
+            is_committed(primary, transaction, *worker, *expected)
         }
         Step::CommitOf(commits, changes) => {
-            if workers == 0 {
-                return Err("no such worker".into());
-            }
             let transaction = transaction_elsewhere(alloc, commits, changes)?;
-            Ok(is_committed(primary, transaction, 0, Err(CommitFault::Foreign)))
+            is_committed(primary, transaction, 0, Err(CommitFault::Foreign))
         }
         Step::Flush(count, durable) => is_flushed(primary, *count, Ok(*durable)),
         Step::FlushRefused(count, fault) => is_flushed(primary, *count, Err(*fault)),
@@ -228,19 +230,20 @@ fn is_committed<J: JournalStore>(
     transaction: Transaction,
     worker: u8,
     expected: Result<u64, CommitFault>,
-) -> bool
-    requires { worker < primary.old.primary.workers }
-    ensures { primary.new.primary.workers ≡ primary.old.primary.workers }
-{
+) -> Result<bool, Fail> {
+    if worker >= primary.workers() {
+        return Err("no such worker".into());
+    }
     let given = (worker, transaction.snapshot(), transaction.entries().len());
     let before = counts(primary);
-    match primary.commit(transaction, worker) {
+    Ok(match primary.commit(transaction, worker) {
         Err((transaction, CommitFault::Memory)) => {
-            counts(primary) == before
-                && is_expected(primary.commit(transaction, worker), given, expected)
+            let kept = counts(primary) == before;
+            let committed = is_expected(primary.commit(transaction, worker), given, expected);
+            kept && committed
         }
         outcome => is_expected(outcome, given, expected),
-    }
+    })
 }
 
 /// The worker for which a transaction is committed, its snapshot, and how many entries it has.
@@ -274,9 +277,7 @@ fn is_flushed<J: JournalStore + Drop>(
     primary: &mut PrimaryCore<J>,
     count: usize,
     expected: Result<u64, FlushFault>,
-) -> Result<bool, Fail>
-    ensures { primary.new.primary.workers ≡ primary.old.primary.workers }
-{
+) -> Result<bool, Fail> {
     let before = counts(primary);
     let flushed = primary.flush(count);
     if flushed == Err(FlushFault::Memory) {
@@ -337,9 +338,7 @@ fn is_received<J: JournalStore>(
 fn is_based<J: JournalStore>(
     primary: &mut PrimaryCore<J>,
     expected: (u64, u64),
-) -> Result<bool, Fail>
-    ensures { primary.new.primary.workers ≡ primary.old.primary.workers }
-{
+) -> Result<bool, Fail> {
     let before = (counts(primary), primary.low(0));
     match primary.take_base() {
         Ok(taken) => Ok(taken == expected),

@@ -6,7 +6,7 @@
 
 ghost use Rattle.std.specs.Prelude.{◌≡◌, ◌≤◌, length};
 
-use crate::accounts::{ACCOUNTS, Cell, HISTORY, is_held, value_of, versions_of};
+use crate::accounts::{Cell, is_held, value_of, versions_behind};
 use mvcc::{Transaction, TxFault, Versions};
 use rows::{RowId, Value};
 use std::alloc::{AllocError, Global};
@@ -36,13 +36,25 @@ fn other_answer(
     count: usize,
 ) -> Result<Option<usize>, Fail> {
     let mut transaction = Transaction::begin(alloc, version);
+    let other = other_call(alloc, versions, &mut transaction, story)?;
+    let entries = transaction.into_entries();
+    if other.is_none() && entries.len() != count {
+        return Ok(Some(story.len()));
+    }
+    Ok(other)
+}
+
+/// The index of the first call that answers otherwise.
+fn other_call(
+    alloc: Global,
+    versions: &Versions,
+    transaction: &mut Transaction,
+    story: &[Call],
+) -> Result<Option<usize>, Fail> {
     for (index, call) in story.iter().enumerate() {
-        if !is_answered(alloc, versions, &mut transaction, call)? {
+        if !is_answered(alloc, versions, transaction, call)? {
             return Ok(Some(index));
         }
-    }
-    if transaction.into_entries().len() != count {
-        return Ok(Some(story.len()));
     }
     Ok(None)
 }
@@ -324,7 +336,7 @@ fn other_story_on(
 
 /// The same on four commits of the history.
 fn other_story(alloc: Global, stories: &[Story]) -> Result<Option<(usize, usize)>, Fail> {
-    let versions = versions_of(alloc, &ACCOUNTS, &HISTORY[..4])?;
+    let versions = versions_behind(alloc, 4)?;
     other_story_on(alloc, &versions, stories)
 }
 
