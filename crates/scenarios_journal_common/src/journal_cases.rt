@@ -136,7 +136,7 @@ pub type Bytes = (usize, &'static [(usize, u8)], &'static [u8]);
 pub type Case = (usize, &'static [(usize, u8)], &'static [u8], Outcome);
 
 /// Bytes of all kinds that `recover` tells apart, of version 2.
-pub const CASES: [Case; 50] = [
+pub static CASES: [Case; 50] = [
     (52, &[], &[], Ok((1, 52))),
     // What a stop leaves of the record, and of the header.
     (51, &[], &[], Ok((0, 9))),
