@@ -1,6 +1,6 @@
 //! Bases: which frames are kept, and which pieces are sent.
 
-use crate::primary_steps::{Change, Line, Step, other_step_of, other_story, start};
+use crate::primary_steps::{Change, Line, Step, expect_none, other_step_of, other_story, start};
 use journal::MemJournal;
 use primary::{PrimaryCore, Work};
 use scenarios_common::worker_datagrams::{ASK, HEAD, HEAD_OF_BASE, PIECE, PULL_OF_BASE};
@@ -112,7 +112,7 @@ static STORIES: [(u8, &[Line]); 5] = [
 
 #[test]
 fn a_base_stands_for_the_frames_below_it(rt: HostRuntime) -> Result<(), Fail> {
-    assert_eq!(rt; other_story(rt.alloc(), &STORIES)?, None);
+    expect_none(&rt, other_story(rt.alloc(), &STORIES)?);
     Ok(())
 }
 
@@ -198,6 +198,6 @@ static TAKEN: [Line; 8] = [
 /// and is taken when it is asked for again; and so a Pull is answered then.
 #[test]
 fn a_base_without_memory_is_the_one_before(rt: HostRuntime) -> Result<(), Fail> {
-    assert_eq!(rt; other_story(rt.alloc(), &[(1, &TAKEN)])?, None);
+    expect_none(&rt, other_story(rt.alloc(), &[(1, &TAKEN)])?);
     Ok(())
 }

@@ -86,7 +86,10 @@ fn a_primary_commits_while_its_journal_is_written(rt: HostRuntime) -> Result<(),
 /// Whether a flush that one primary began is refused by another one, which has its journal.
 fn is_not_lent(one: &mut PrimaryCore<MemJournal>, other: &mut PrimaryCore<MemJournal>) -> bool {
     match one.begin_flush(0) {
-        Ok(work) => other.end_flush(work.write()) == Err(FlushFault::NotLent) && one.lent(),
+        Ok(work) => {
+            let ended = other.end_flush(work.write());
+            ended == Err(FlushFault::NotLent) && one.lent() && !other.lent()
+        }
         Err(_) => false,
     }
 }
@@ -94,7 +97,7 @@ fn is_not_lent(one: &mut PrimaryCore<MemJournal>, other: &mut PrimaryCore<MemJou
 /// The same of another one without commits.
 fn is_not_lent_to_other(alloc: Global, one: &mut PrimaryCore<MemJournal>) -> Result<bool, Fail> {
     let mut other = start(alloc, 1)?;
-    Ok(is_not_lent(one, &mut other) && !other.lent())
+    Ok(is_not_lent(one, &mut other))
 }
 
 /// The same of primaries without commits.

@@ -5,6 +5,7 @@ use crate::primary_starts::{
     CUT, DELETED, FAILED, FIRST_APPEND, FIRST_FLUSH, History, NONE, READ, RECOVERED, Started, live,
     other_history,
 };
+use crate::primary_steps::expect_none;
 use journal::Form;
 use scenarios_journal_common::failing_journal::{Failing, FailingJournal, Failure};
 use scenarios_journal_common::journal_cases::{JOURNAL_HEADER, MARK, bytes_of, front};
@@ -195,9 +196,9 @@ static BEHIND_MARK: [History; 2] = [
 
 #[test]
 fn a_mark_that_a_store_refuses_is_written_again(rt: HostRuntime) -> Result<(), Fail> {
-    for histories in [MARK_LOST.as_slice(), &OLD_NOT_CUT, &BEHIND_MARK] {
-        assert_eq!(rt; other_history(rt.alloc(), histories)?, None);
-    }
+    expect_none(&rt, other_history(rt.alloc(), &MARK_LOST)?);
+    expect_none(&rt, other_history(rt.alloc(), &OLD_NOT_CUT)?);
+    expect_none(&rt, other_history(rt.alloc(), &BEHIND_MARK)?);
     Ok(())
 }
 
@@ -214,6 +215,6 @@ static OLD_TORN: [History; 1] = [(
 /// that keeps what it kept, and the next one marks it.
 #[test]
 fn an_old_journal_without_memory_keeps_what_it_kept(rt: HostRuntime) -> Result<(), Fail> {
-    assert_eq!(rt; other_history(rt.alloc(), &OLD_TORN)?, None);
+    expect_none(&rt, other_history(rt.alloc(), &OLD_TORN)?);
     Ok(())
 }

@@ -11,6 +11,7 @@ use rows::{RowId, Schema, Value};
 use scenarios_common::wanted::{NUMBERS, Wanted};
 use scenarios_common::worker_datagrams::{pull_of, want_of};
 use std::alloc::{AllocError, Global};
+use std::process::Abort;
 use std::test::Fail;
 use wire::{Datagram, Out, To, read};
 
@@ -74,6 +75,11 @@ pub fn other_story(
         }
     }
     Ok(None)
+}
+
+/// Stops the test where something goes otherwise, and tells what does.
+pub fn expect_none<R: Abort>(rt: &R, other: Option<(usize, usize)>) {
+    assert_eq!(rt; other, None);
 }
 
 /// The index of the first step that a fresh primary answers otherwise.
@@ -142,32 +148,76 @@ fn is_answered<J: JournalStore + Drop>(
 ) -> Result<bool, Fail> {
     match step {
         Step::Commit(worker, version, changes, expected) => {
-            let transaction = transaction(alloc, primary.versions(), *version, changes)?;
-            is_committed(primary, transaction, *worker, *expected)
+            are_committed(alloc, primary, *worker, *version, changes, *expected)
         }
-        Step::CommitOf(commits, changes) => {
-            let transaction = transaction_elsewhere(alloc, commits, changes)?;
-            is_committed(primary, transaction, 0, Err(CommitFault::Foreign))
-        }
+        Step::CommitOf(commits, changes) => are_foreign(alloc, primary, commits, changes),
         Step::Flush(count, durable) => is_flushed(primary, *count, Ok(*durable)),
         Step::FlushRefused(count, fault) => is_flushed(primary, *count, Err(*fault)),
         Step::PendingText(expected) => is_pending_text(primary, expected),
         Step::Push(worker, seq, expected) => Ok(is_pushed(primary, *worker, *seq, *expected)),
         Step::Receive(bytes, expected) => is_received(primary, bytes, *expected),
         Step::Want(replica, worker, from, lens) => {
-            let outs = sent(primary, &want_of(*replica, *worker, *from))?;
-            Ok(are_frames(outs.as_slice(), *replica, *worker, *from, lens))
+            are_frames_sent(primary, *replica, *worker, *from, *from, lens)
         }
-        Step::WantAcross(from, kept, lens) => {
-            let outs = sent(primary, &want_of(0, 0, *from))?;
-            Ok(are_frames(outs.as_slice(), 0, 0, *kept, lens))
-        }
+        Step::WantAcross(from, kept, lens) => are_frames_sent(primary, 0, 0, *from, *kept, lens),
         Step::Base(base, pieces) => is_based(primary, (*base, *pieces)),
         Step::Pull(replica, base, from, lens) => {
-            let outs = sent(primary, &pull_of(*replica, *base, *from))?;
-            Ok(are_pieces(outs.as_slice(), *replica, *base, *from, lens))
+            are_pieces_sent(primary, *replica, *base, *from, lens)
         }
     }
+}
+
+/// Whether the commit for a worker of a transaction on that version with these changes is answered
+/// so.
+fn are_committed<J: JournalStore>(
+    alloc: Global,
+    primary: &mut PrimaryCore<J>,
+    worker: u8,
+    version: u64,
+    changes: &[Change],
+    expected: Result<u64, CommitFault>,
+) -> Result<bool, Fail> {
+    let transaction = transaction(alloc, primary.versions(), version, changes)?;
+    is_committed(primary, transaction, worker, expected)
+}
+
+/// Whether these changes are refused as foreign, in a transaction of worker 0 on the newest version
+/// of a database that has those commits.
+fn are_foreign<J: JournalStore>(
+    alloc: Global,
+    primary: &mut PrimaryCore<J>,
+    commits: &[&[Wanted<'_>]],
+    changes: &[Change],
+) -> Result<bool, Fail> {
+    let transaction = transaction_elsewhere(alloc, commits, changes)?;
+    is_committed(primary, transaction, 0, Err(CommitFault::Foreign))
+}
+
+/// Whether a replica that wants a worker's frames from a seq on is sent those that are kept, from
+/// the second seq on, of these lengths.
+fn are_frames_sent<J: JournalStore>(
+    primary: &PrimaryCore<J>,
+    replica: u8,
+    worker: u8,
+    from: u64,
+    kept: u64,
+    lens: &[usize],
+) -> Result<bool, Fail> {
+    let outs = sent(primary, &want_of(replica, worker, from))?;
+    Ok(are_frames(outs.as_slice(), replica, worker, kept, lens))
+}
+
+/// Whether a replica that wants the pieces of a base from a number on is sent those, of these
+/// lengths.
+fn are_pieces_sent<J: JournalStore>(
+    primary: &PrimaryCore<J>,
+    replica: u8,
+    base: u64,
+    from: u64,
+    lens: &[usize],
+) -> Result<bool, Fail> {
+    let outs = sent(primary, &pull_of(replica, base, from))?;
+    Ok(are_pieces(outs.as_slice(), replica, base, from, lens))
 }
 
 /// A transaction on that version with these changes.

@@ -7,6 +7,7 @@
 ghost use Rattle.std.specs.Prelude.{◌≡◌, ◌≤◌, length};
 
 use crate::accounts::{Cell, is_held, value_of, versions_behind};
+use crate::primary_steps::expect_none;
 use mvcc::{Transaction, TxFault, Versions};
 use rows::{RowId, Value};
 use std::alloc::{AllocError, Global};
@@ -342,7 +343,7 @@ fn other_story(alloc: Global, stories: &[Story]) -> Result<Option<(usize, usize)
 
 #[test]
 fn transactions_answer_as_they_should(rt: HostRuntime) -> Result<(), Fail> {
-    assert_eq!(rt; other_story(rt.alloc(), &STORIES)?, None);
+    expect_none(&rt, other_story(rt.alloc(), &STORIES)?);
     Ok(())
 }
 
@@ -366,6 +367,6 @@ static CHANGES: [Story; 1] = [(
 /// nothing, and is made when it is asked for again.
 #[test]
 fn a_change_without_memory_changes_nothing(rt: HostRuntime) -> Result<(), Fail> {
-    assert_eq!(rt; other_story(rt.alloc(), &CHANGES)?, None);
+    expect_none(&rt, other_story(rt.alloc(), &CHANGES)?);
     Ok(())
 }

@@ -1,6 +1,7 @@
 //! Versions: what each call tells of a history of accounts, and what refused memory leaves.
 
 use crate::accounts::{Cell, is_absorbed, is_held, versions_behind};
+use crate::primary_steps::expect_none;
 use mvcc::Versions;
 use rows::{Commit, Entry, RowId};
 use scenarios_common::wanted::{Wanted, all_made};
@@ -172,7 +173,7 @@ fn other_story(alloc: Global) -> Result<Option<(usize, usize)>, Fail> {
 
 #[test]
 fn versions_tell_their_history(rt: HostRuntime) -> Result<(), Fail> {
-    assert_eq!(rt; other_story(rt.alloc())?, None);
+    expect_none(&rt, other_story(rt.alloc())?);
     Ok(())
 }
 
