@@ -6,7 +6,9 @@ ghost use Rattle.std.specs.Prelude.{◌≡◌, true};
 use crate::failing_disk::FailingDisk;
 use journal::{Disk, FileFault, FileJournal, JournalStore};
 use scenarios_common::files::fresh_path;
-use scenarios_journal_common::journal_cases::{HEADER_LEN, JOURNAL};
+use scenarios_journal_common::journal_cases::{
+    HEADER_LEN, JOURNAL, JOURNAL_HEADER, JOURNAL_RECORD,
+};
 use std::alloc::Global;
 use std::fs::{self, File, OpenOptions};
 use std::io::{self, ErrorKind};
@@ -64,18 +66,32 @@ fn read<D: Disk>(journal: &mut FileJournal<D>, list: &mut Vec<u8>) -> Result<End
 /// How these calls end on a file that cannot be written, and how many faults there were: it is read,
 /// a record is appended and another, it is cut, and read again.
 fn ends_unwritten(rt: &HostRuntime, path: &str) -> Result<([End; 5], u64), Fail> {
+    let mut journal = open_to_read(rt, path)?;
+    let mut list = Vec::new(rt.alloc());
+    ends_on_unwritten(&mut journal, &mut list)
+}
+
+/// A journal in a file that cannot be written.
+fn open_to_read(rt: &HostRuntime, path: &str) -> Result<FileJournal, Fail> {
     let file = OpenOptions::new().read(true).open(rt, path)?;
     let len = file.metadata()?.len();
-    let mut journal = FileJournal::on(file, len);
-    let mut list = Vec::new(rt.alloc());
-    let before = read(&mut journal, &mut list)?;
+    Ok(FileJournal::on(file, len))
+}
+
+/// How these calls end on a journal in a file that cannot be written. The list is left with what was
+/// read.
+fn ends_on_unwritten(
+    journal: &mut FileJournal,
+    list: &mut Vec<u8>,
+) -> Result<([End; 5], u64), Fail> {
+    let before = read(journal, list)?;
     if list.as_slice() != JOURNAL.as_slice() {
         return Err("other bytes".into());
     }
-    let first = append(&mut journal, &JOURNAL[HEADER_LEN..])?;
-    let second = append(&mut journal, &JOURNAL[HEADER_LEN..])?;
-    let cut = cut_to(&mut journal, HEADER_LEN)?;
-    let after = read(&mut journal, &mut list)?;
+    let first = append(journal, &JOURNAL_RECORD)?;
+    let second = append(journal, &JOURNAL_RECORD)?;
+    let cut = cut_to(journal, HEADER_LEN)?;
+    let after = read(journal, list)?;
     Ok(([before, first, second, cut, after], journal.faults()))
 }
 
@@ -121,16 +137,19 @@ fn reason_of<D: Disk>(journal: &FileJournal<D>) -> Reason {
 /// What a journal in a file that cannot be written keeps as its last fault: at first, after an append,
 /// after another one, and after a cut.
 fn reasons_unwritten(rt: &HostRuntime, path: &str) -> Result<[Reason; 4], Fail> {
-    let file = OpenOptions::new().read(true).open(rt, path)?;
-    let len = file.metadata()?.len();
-    let mut journal = FileJournal::on(file, len);
-    let first = reason_of(&journal);
-    let _ = append(&mut journal, &JOURNAL[HEADER_LEN..])?;
-    let written = reason_of(&journal);
-    let _ = append(&mut journal, &JOURNAL[HEADER_LEN..])?;
-    let again = reason_of(&journal);
-    let _ = cut_to(&mut journal, HEADER_LEN)?;
-    Ok([first, written, again, reason_of(&journal)])
+    let mut journal = open_to_read(rt, path)?;
+    reasons_on_unwritten(&mut journal)
+}
+
+/// The same of such a journal.
+fn reasons_on_unwritten(journal: &mut FileJournal) -> Result<[Reason; 4], Fail> {
+    let first = reason_of(journal);
+    let _ = append(journal, &JOURNAL_RECORD)?;
+    let written = reason_of(journal);
+    let _ = append(journal, &JOURNAL_RECORD)?;
+    let again = reason_of(journal);
+    let _ = cut_to(journal, HEADER_LEN)?;
+    Ok([first, written, again, reason_of(journal)])
 }
 
 /// The number of the system's error where a file is not open for writing (EBADF).
@@ -175,7 +194,7 @@ fn longest(file: &File) -> u64 {
 /// Makes the file one that begins with the journal's header, and ends so many bytes before it could
 /// be no longer. Answers its length.
 fn lengthen(rt: &HostRuntime, path: &str, room: u64) -> Result<u64, Fail> {
-    fs::write(rt, path, &JOURNAL[..HEADER_LEN])?;
+    fs::write(rt, path, &JOURNAL_HEADER)?;
     let file = OpenOptions::new().read(true).write(true).open(rt, path)?;
     let len = longest(&file).saturating_sub(room);
     file.set_len(len)?;
@@ -192,15 +211,26 @@ fn ends_unsettled(
 ) -> Result<([End; 5], u64), Fail> {
     let len = lengthen(rt, path, 20)?;
     let mut journal = FileJournal::open(rt, path)?;
-    let first = append(&mut journal, &JOURNAL[HEADER_LEN..])?;
+    ends_on_full(rt, path, len, &mut journal, list)
+}
+
+/// The same of a journal in a file of that length.
+fn ends_on_full(
+    rt: &HostRuntime,
+    path: &str,
+    len: u64,
+    journal: &mut FileJournal,
+    list: &mut Vec<u8>,
+) -> Result<([End; 5], u64), Fail> {
+    let first = append(journal, &JOURNAL_RECORD)?;
     let left = fs::metadata(rt, path)?.len();
-    let second = append(&mut journal, &JOURNAL[HEADER_LEN..])?;
+    let second = append(journal, &JOURNAL_RECORD)?;
     if left < len || fs::metadata(rt, path)?.len() != left {
         return Err("another length".into());
     }
-    let cut = cut_to(&mut journal, HEADER_LEN)?;
-    let third = append(&mut journal, &JOURNAL[HEADER_LEN..])?;
-    let after = read(&mut journal, list)?;
+    let cut = cut_to(journal, HEADER_LEN)?;
+    let third = append(journal, &JOURNAL_RECORD)?;
+    let after = read(journal, list)?;
     Ok(([first, second, cut, third, after], journal.faults()))
 }
 
@@ -300,11 +330,19 @@ const STORIES: [Story; 8] = [
 fn ends_of(alloc: Global, story: &Story, list: &mut Vec<u8>) -> Result<([End; 5], u64), Fail> {
     let disk = FailingDisk::new(alloc, story.calls_before, story.bytes_left);
     let mut journal = FileJournal::on(disk, 0);
-    let first = append(&mut journal, &JOURNAL)?;
-    let second = append(&mut journal, &JOURNAL[HEADER_LEN..])?;
-    let cut = cut_to(&mut journal, 0)?;
-    let third = append(&mut journal, &JOURNAL)?;
-    let after = read(&mut journal, list)?;
+    ends_on(&mut journal, list)
+}
+
+/// The same of a journal in such a file.
+fn ends_on(
+    journal: &mut FileJournal<FailingDisk>,
+    list: &mut Vec<u8>,
+) -> Result<([End; 5], u64), Fail> {
+    let first = append(journal, &JOURNAL)?;
+    let second = append(journal, &JOURNAL_RECORD)?;
+    let cut = cut_to(journal, 0)?;
+    let third = append(journal, &JOURNAL)?;
+    let after = read(journal, list)?;
     Ok(([first, second, cut, third, after], journal.faults()))
 }
 

@@ -9,7 +9,7 @@ use journal::{
 use rows::{Commit, Entry, EntryList, RowId, Schema, fits};
 use scenarios_common::wanted::{FIVE, NUMBERS, Wanted, made};
 use scenarios_journal_common::journal_cases::{
-    ADD_BYTE, CASES, Case, HEADER_LEN, JOURNAL, Outcome, bytes_of,
+    ADD_BYTE, CASES, Case, JOURNAL, JOURNAL_HEADER, JOURNAL_RECORD, Outcome, bytes_of, front,
 };
 use scenarios_journal_common::old_journal_cases::Formed;
 use std::alloc::Global;
@@ -19,14 +19,19 @@ use std::test::Fail;
 /// What is recovered of bytes, of two workers and of accounts, and the form of their text.
 pub fn formed(alloc: Global, bytes: &[u8]) -> Result<Formed, Fail> {
     let schema = Schema::new(alloc, &NUMBERS)?;
-    Ok(match recover(alloc, bytes, &schema, 2) {
+    Ok(formed_of(recover(alloc, bytes, &schema, 2)))
+}
+
+/// What was recovered, and its form.
+fn formed_of(recovered: Result<Recovered, JournalFault>) -> Formed {
+    match recovered {
         Ok(recovered) => Ok((
             recovered.commits.len(),
             recovered.bytes_kept,
             recovered.form,
         )),
         Err(fault) => Err(fault),
-    })
+    }
 }
 
 /// The same of a text that is of version 2 from the beginning.
@@ -95,6 +100,12 @@ fn with_columns(alloc: Global, commits: &[&[u8]]) -> Result<Vec<u8>, Fail> {
     Ok(bytes)
 }
 
+/// What is recovered of them.
+fn outcome_with_columns(alloc: Global, commits: &[&[u8]]) -> Result<Outcome, Fail> {
+    let bytes = with_columns(alloc, commits)?;
+    outcome(alloc, &bytes)
+}
+
 /// The kinds of the columns that each commit adds, and what is recovered.
 type Wider = (&'static [&'static [u8]], Outcome);
 
@@ -123,8 +134,7 @@ const WIDER: [Wider; 15] = [
 /// The index of the first of these of which something else is recovered.
 fn other_width(alloc: Global) -> Result<Option<usize>, Fail> {
     for (index, (commits, recovered)) in WIDER.iter().enumerate() {
-        let bytes = with_columns(alloc, commits)?;
-        if outcome(alloc, &bytes)? != *recovered {
+        if outcome_with_columns(alloc, commits)? != *recovered {
             return Ok(Some(index));
         }
     }
@@ -141,13 +151,18 @@ fn columns_are_added_up_to_the_limits(rt: HostRuntime) -> Result<(), Fail> {
 /// else is recovered than a torn end.
 fn other_torn_column(alloc: Global) -> Result<Option<usize>, Fail> {
     for len in 0..19 {
-        let mut bytes = Vec::from_slice(alloc, &JOURNAL)?;
-        bytes.extend_from_slice(ADD_BYTE.split_at(len).0)?;
-        if outcome(alloc, &bytes)? != Ok((1, 52)) {
+        if outcome_of_column(alloc, len)? != Ok((1, 52)) {
             return Ok(Some(len));
         }
     }
     Ok(None)
+}
+
+/// What is recovered of the journal and so many bytes of the record of an added column behind it.
+fn outcome_of_column(alloc: Global, len: usize) -> Result<Outcome, Fail> {
+    let mut bytes = Vec::from_slice(alloc, &JOURNAL)?;
+    bytes.extend_from_slice(front(&ADD_BYTE, len))?;
+    outcome(alloc, &bytes)
 }
 
 #[test]
@@ -168,7 +183,7 @@ fn is_of_journal(recovered: &Recovered) -> bool {
 fn is_insert(entries: &[Entry]) -> bool {
     match entries {
         [Entry::Insert { table, row, bytes }] => {
-            *table == 0 && *row == RowId(7) && bytes.as_slice() == &JOURNAL[36..]
+            *table == 0 && *row == RowId(7) && bytes.as_slice() == FIVE.as_slice()
         }
         _ => false,
     }
@@ -199,10 +214,19 @@ fn record(alloc: Global, schema: &Schema) -> Result<Vec<u8>, Fail> {
 
 /// Whether the header and that record are the bytes of the journal.
 fn is_written(alloc: Global, schema: &Schema) -> Result<bool, Fail> {
+    Ok(is_header_written(alloc, schema)? && is_record_written(alloc, schema)?)
+}
+
+/// Whether the header is.
+fn is_header_written(alloc: Global, schema: &Schema) -> Result<bool, Fail> {
     let header = header_bytes(alloc, 2, schema)?;
+    Ok(header.as_slice() == JOURNAL_HEADER.as_slice())
+}
+
+/// Whether the record is.
+fn is_record_written(alloc: Global, schema: &Schema) -> Result<bool, Fail> {
     let record = record(alloc, schema)?;
-    let (front, rest) = JOURNAL.split_at(HEADER_LEN);
-    Ok(header.as_slice() == front && record.as_slice() == rest)
+    Ok(record.as_slice() == JOURNAL_RECORD.as_slice())
 }
 
 #[test]

@@ -3,7 +3,9 @@
 use crate::journal_bytes::outcome;
 use journal::{FileJournal, JournalStore, OpenFault};
 use scenarios_common::files::fresh_path;
-use scenarios_journal_common::journal_cases::{JOURNAL, Outcome};
+use scenarios_journal_common::journal_cases::{
+    JOURNAL, JOURNAL_HEADER, JOURNAL_RECORD, Outcome, front,
+};
 use std::alloc::Global;
 use std::env::temp_dir;
 use std::fs;
@@ -43,8 +45,13 @@ fn read(alloc: Global, journal: &mut FileJournal) -> Result<Vec<u8>, Fail> {
 /// Writes the journal to a new file, in two appends.
 fn write(rt: &HostRuntime, path: &str) -> Result<(), Fail> {
     let mut journal = FileJournal::open(rt, path)?;
-    append(&mut journal, &JOURNAL[..9])?;
-    append(&mut journal, &JOURNAL[9..])
+    append_both(&mut journal)
+}
+
+/// Appends the header and the record.
+fn append_both(journal: &mut FileJournal) -> Result<(), Fail> {
+    append(journal, &JOURNAL_HEADER)?;
+    append(journal, &JOURNAL_RECORD)
 }
 
 /// What is recovered of a journal in a file, which is to have these bytes.
@@ -81,13 +88,22 @@ fn are_locked(rt: &HostRuntime, path: &str) -> Result<(bool, bool), Fail> {
 fn repaired(rt: &HostRuntime, path: &str, front: &[u8]) -> Result<Outcome, Fail> {
     fs::write(rt, path, front)?;
     let mut journal = FileJournal::open(rt, path)?;
-    let recovered = recovered(rt.alloc(), &mut journal, front)?;
+    repair(rt.alloc(), &mut journal, front)
+}
+
+/// The same of a journal that is open.
+fn repair(alloc: Global, journal: &mut FileJournal, front: &[u8]) -> Result<Outcome, Fail> {
+    let recovered = recovered(alloc, journal, front)?;
     if let Ok((_, kept)) = recovered {
-        cut_to(&mut journal, kept)?;
-        let (_, missing) = JOURNAL.split_at((kept as usize).min(52));
-        append(&mut journal, missing)?;
+        cut_to(journal, kept)?;
+        append(journal, behind(&JOURNAL, kept as usize))?;
     }
     Ok(recovered)
+}
+
+/// What is behind the first of these bytes, so many.
+fn behind(bytes: &[u8], len: usize) -> &[u8] {
+    bytes.split_at(len.min(bytes.len())).1
 }
 
 /// What is to be recovered of so many bytes of the journal.
@@ -103,8 +119,7 @@ fn expected(len: usize) -> Outcome {
 
 /// Whether that is recovered of so many bytes of the journal, and it is made whole again.
 fn is_repaired(rt: &HostRuntime, path: &str, len: usize) -> Result<bool, Fail> {
-    let (front, _) = JOURNAL.split_at(len.min(52));
-    if repaired(rt, path, front)? != expected(len) {
+    if repaired(rt, path, front(&JOURNAL, len))? != expected(len) {
         return Ok(false);
     }
     let bytes = fs::read(rt, path)?;

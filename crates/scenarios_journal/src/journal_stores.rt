@@ -6,7 +6,7 @@ ghost use Rattle.journal.specs.Storing.{faults_max};
 use crate::journal_bytes::outcome;
 use journal::{JournalStore, MemJournal};
 use scenarios_journal_common::failing_journal::{Failing, FailingJournal, Failure};
-use scenarios_journal_common::journal_cases::{JOURNAL, JOURNAL_RECORD, Outcome};
+use scenarios_journal_common::journal_cases::{JOURNAL, JOURNAL_HEADER, JOURNAL_RECORD, Outcome};
 use std::alloc::Global;
 use std::test::Fail;
 
@@ -29,9 +29,6 @@ static CALLS: [Call; 5] = [
     Call::ReadAll,
     Call::Append(&JOURNAL_RECORD),
 ];
-
-/// The header of the journal.
-const JOURNAL_HEADER: [u8; 9] = [0x42, 0x44, 0x4a, 0x32, 0x02, 0x01, 0x02, 0x00, 0x00];
 
 /// Makes a call, and answers whether it was done. The list is left with what was read.
 fn make<J: JournalStore>(journal: &mut J, call: Call, list: &mut Vec<u8>) -> Result<bool, Fail> {
@@ -96,14 +93,24 @@ fn left_by(alloc: Global, calls_before: u64) -> Result<(usize, u64, Outcome), Fa
         bytes_left: 2,
     };
     let mut journal = FailingJournal::of(Vec::new(alloc), failure);
+    left_in(alloc, &mut journal)
+}
+
+/// The same of a journal.
+fn left_in(alloc: Global, journal: &mut FailingJournal) -> Result<(usize, u64, Outcome), Fail> {
     let mut list = Vec::new(alloc);
-    let done = make_all(&mut journal, &CALLS, &mut list)?;
+    let done = make_all(journal, &CALLS, &mut list)?;
     let faults = journal.faults();
-    if done != (faults == 0) || !JOURNAL.starts_with(journal.content()) {
+    if done != (faults == 0) || !is_beginning(journal.content()) {
         return Err("other bytes".into());
     }
     let bytes = journal.content();
     Ok((bytes.len(), faults, outcome(alloc, bytes)?))
+}
+
+/// Whether these bytes are a beginning of the journal's.
+fn is_beginning(bytes: &[u8]) -> bool {
+    JOURNAL.starts_with(bytes)
 }
 
 /// The index of the first call of which something else is left.
@@ -120,8 +127,13 @@ fn other_left(alloc: Global) -> Result<Option<usize>, Fail> {
 fn does_each_call(alloc: Global) -> Result<bool, Fail> {
     let mut journal = MemJournal::new(alloc);
     let mut list = Vec::new(alloc);
+    is_done(&mut journal, &mut list)
+}
+
+/// Whether a journal in memory and a list are left as they should be by each call.
+fn is_done(journal: &mut MemJournal, list: &mut Vec<u8>) -> Result<bool, Fail> {
     Ok(
-        make_all(&mut journal, &CALLS, &mut list)?
+        make_all(journal, &CALLS, list)?
             && journal.faults() == 0
             && journal.content() == JOURNAL.as_slice()
             && list.as_slice() == JOURNAL_HEADER.as_slice(),
@@ -131,9 +143,14 @@ fn does_each_call(alloc: Global) -> Result<bool, Fail> {
 /// Whether a journal in memory is made of bytes, and a list of others is left with what is read.
 fn is_made_of_bytes(alloc: Global) -> Result<bool, Fail> {
     let mut journal = MemJournal::of(Vec::from_slice(alloc, &JOURNAL)?);
+    is_cut(alloc, &mut journal)
+}
+
+/// Whether it is read into that list, and cut.
+fn is_cut(alloc: Global, journal: &mut MemJournal) -> Result<bool, Fail> {
     let mut list = Vec::from_slice(alloc, &[1, 2, 3])?;
     Ok(
-        make(&mut journal, Call::CutTo(9), &mut list)?
+        make(journal, Call::CutTo(9), &mut list)?
             && list.as_slice() == JOURNAL.as_slice()
             && journal.content() == JOURNAL_HEADER.as_slice(),
     )
@@ -152,6 +169,11 @@ fn a_journal_stands_after_each_call(rt: HostRuntime) -> Result<(), Fail> {
 /// that was refused, nothing was appended, and it is asked for once more.
 fn keeps_its_bytes(alloc: Global) -> Result<bool, Fail> {
     let mut journal = MemJournal::of(Vec::from_slice(alloc, &JOURNAL_HEADER)?);
+    is_appended(&mut journal)
+}
+
+/// The same of a journal with the header.
+fn is_appended(journal: &mut MemJournal) -> Result<bool, Fail> {
     if journal.reserve(JOURNAL_RECORD.len()).is_err() {
         if journal.content() != JOURNAL_HEADER.as_slice() {
             return Ok(false);

@@ -3,7 +3,7 @@
 //! run, which it then does with many commits. What passes is that all commits are recovered.
 
 use crate::journal_bytes::outcome;
-use scenarios_journal_common::journal_cases::JOURNAL;
+use scenarios_journal_common::journal_cases::{JOURNAL_HEADER, JOURNAL_RECORD};
 use std::alloc::Global;
 use std::env;
 use std::rt::{Clock, Env};
@@ -87,21 +87,25 @@ fn mixed(number: u64) -> u64 {
 
 /// A journal of so many commits, each of which inserts one row.
 fn journal_of(alloc: Global, order: Order, commits: u32) -> Result<Vec<u8>, Fail> {
-    let mut bytes = Vec::from_slice(alloc, &JOURNAL[..9])?;
+    let mut bytes = Vec::from_slice(alloc, &JOURNAL_HEADER)?;
     for commit in 0..commits {
-        let number = u64::from(commit) + 1;
-        let row = if order == Order::Mixed {
-            mixed(number)
-        } else {
-            number
-        };
-        let mut record = [0; 43];
-        record.copy_from_slice(&JOURNAL[9..]);
-        record[5..13].copy_from_slice(&number.to_be_bytes());
-        record[17..25].copy_from_slice(&row.to_be_bytes());
-        bytes.extend_from_slice(&record)?;
+        push_commit(&mut bytes, order, u64::from(commit) + 1)?;
     }
     Ok(bytes)
+}
+
+/// Adds the record of the commit of that number.
+fn push_commit(bytes: &mut Vec<u8>, order: Order, number: u64) -> Result<(), Fail> {
+    let row = if order == Order::Mixed {
+        mixed(number)
+    } else {
+        number
+    };
+    let mut record = JOURNAL_RECORD;
+    record[5..13].copy_from_slice(&number.to_be_bytes());
+    record[17..25].copy_from_slice(&row.to_be_bytes());
+    bytes.extend_from_slice(&record)?;
+    Ok(())
 }
 
 /// How many microseconds it takes to recover a journal of so many commits, each of whose records has 43 bytes

@@ -46,13 +46,18 @@ fn expected_of_old(len: usize) -> Formed {
 /// The first number of bytes of such a journal of which something else is recovered.
 fn other_old_beginning(alloc: Global) -> Result<Option<usize>, Fail> {
     for len in 0..57 {
-        let mut bytes = bytes_of(alloc, &(52, &OLD, &MARK))?;
-        bytes.truncate(len);
-        if formed(alloc, &bytes)? != expected_of_old(len) {
+        if formed_of_old(alloc, len)? != expected_of_old(len) {
             return Ok(Some(len));
         }
     }
     Ok(None)
+}
+
+/// What is recovered of so many bytes of a journal of version 1 with the mark.
+fn formed_of_old(alloc: Global, len: usize) -> Result<Formed, Fail> {
+    let mut bytes = bytes_of(alloc, &(52, &OLD, &MARK))?;
+    bytes.truncate(len);
+    formed(alloc, &bytes)
 }
 
 #[test]

@@ -16,6 +16,9 @@ pub const JOURNAL: [u8; 52] = [
 /// How many of these bytes are its header.
 pub const HEADER_LEN: usize = 9;
 
+/// Its header.
+pub const JOURNAL_HEADER: [u8; 9] = [0x42, 0x44, 0x4a, 0x32, 0x02, 0x01, 0x02, 0x00, 0x00];
+
 /// The record of its commit.
 pub const JOURNAL_RECORD: [u8; 43] = [
     0x00, 0x00, 0x00, 0x27, 0x00, 0x00, 0x00, 0x00, 0x00, 0x00, 0x00, 0x00, 0x01, 0x00, 0x01, 0x01,
@@ -133,7 +136,7 @@ pub type Bytes = (usize, &'static [(usize, u8)], &'static [u8]);
 pub type Case = (usize, &'static [(usize, u8)], &'static [u8], Outcome);
 
 /// Bytes of all kinds that `recover` tells apart, of version 2.
-pub const CASES: [Case; 50] = [
+pub static CASES: [Case; 50] = [
     (52, &[], &[], Ok((1, 52))),
     // What a stop leaves of the record, and of the header.
     (51, &[], &[], Ok((0, 9))),
@@ -224,16 +227,25 @@ pub const CASES: [Case; 50] = [
     ),
 ];
 
-/// These bytes.
-pub fn bytes_of(alloc: Global, bytes: &Bytes) -> Result<Vec<u8>, Fail> {
-    let (len, changes, behind) = bytes;
-    let (front, _) = JOURNAL.split_at((*len).min(52));
-    let mut bytes = Vec::from_slice(alloc, front)?;
-    for (index, byte) in *changes {
+/// The first of these bytes, so many; all, where there are fewer.
+pub fn front(bytes: &[u8], len: usize) -> &[u8] {
+    bytes.split_at(len.min(bytes.len())).0
+}
+
+/// Puts other bytes at these offsets, where there are such.
+fn change(bytes: &mut [u8], changes: &[(usize, u8)]) {
+    for (index, byte) in changes {
         if *index < bytes.len() {
             bytes[*index] = *byte;
         }
     }
+}
+
+/// These bytes.
+pub fn bytes_of(alloc: Global, bytes: &Bytes) -> Result<Vec<u8>, Fail> {
+    let (len, changes, behind) = bytes;
+    let mut bytes = Vec::from_slice(alloc, front(&JOURNAL, *len))?;
+    change(&mut bytes, changes);
     bytes.extend_from_slice(behind)?;
     Ok(bytes)
 }

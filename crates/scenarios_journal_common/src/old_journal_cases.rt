@@ -63,7 +63,7 @@ pub const OLD: [(usize, u8); 1] = [(3, 0x31)];
 pub type OldCase = (usize, &'static [(usize, u8)], &'static [u8], Formed);
 
 /// Bytes of journals of version 1, without the mark and with it.
-pub const OLD_CASES: [OldCase; 44] = [
+pub static OLD_CASES: [OldCase; 44] = [
     (52, &OLD, &[], Ok((1, 52, Form::Old))),
     (52, &OLD, &MARK, Ok((1, 56, Form::Marked(1)))),
     // What a stop leaves of the mark, of the record, and of the header.

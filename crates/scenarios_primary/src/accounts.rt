@@ -62,9 +62,28 @@ pub fn versions_of(
     commits: &[&[Wanted<'_>]],
 ) -> Result<Versions, Fail> {
     let schema = Schema::new(alloc, tables)?;
-    let mut versions = Versions::new(alloc, &schema)?;
+    versions_with(alloc, &schema, commits)
+}
+
+/// The versions of a schema's tables with these commits.
+fn versions_with(
+    alloc: Global,
+    schema: &Schema,
+    commits: &[&[Wanted<'_>]],
+) -> Result<Versions, Fail> {
+    let mut versions = Versions::new(alloc, schema)?;
     absorb_all(alloc, &mut versions, commits)?;
     Ok(versions)
+}
+
+/// The versions of accounts with so many commits of the history.
+pub fn versions_behind(alloc: Global, count: usize) -> Result<Versions, Fail> {
+    versions_of(alloc, &ACCOUNTS, front(&HISTORY, count))
+}
+
+/// The first of these items, so many; all, where there are fewer.
+fn front<T>(items: &[T], count: usize) -> &[T] {
+    items.split_at(count.min(items.len())).0
 }
 
 /// Absorbs these commits, each of worker 0.
@@ -75,11 +94,17 @@ fn absorb_all(
 ) -> Result<(), Fail> {
     for commit in commits {
         let entries = all_made(alloc, commit)?;
-        if !is_absorbed(versions, entries.as_slice())? {
-            return Err("out of memory".into());
-        }
+        absorb(versions, entries.as_slice())?;
     }
     Ok(())
+}
+
+/// Absorbs a commit of worker 0 that is defined on the newest rows.
+pub fn absorb(versions: &mut Versions, entries: &[Entry]) -> Result<(), Fail> {
+    if is_absorbed(versions, entries)? {
+        return Ok(());
+    }
+    Err("out of memory".into())
 }
 
 /// Absorbs a commit of worker 0 that is defined on the newest rows, if there is memory; answers
@@ -88,5 +113,8 @@ pub fn is_absorbed(versions: &mut Versions, entries: &[Entry]) -> Result<bool, F
     if !versions.are_defined(versions.len(), entries) {
         return Err("not defined".into());
     }
-    Ok(versions.absorb(0, entries).is_ok())
+    match versions.absorb(0, entries) {
+        Ok(()) => Ok(true),
+        Err(_) => Ok(false),
+    }
 }

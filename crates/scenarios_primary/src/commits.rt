@@ -1,7 +1,7 @@
 //! What commits answer: numbers, conflicts, transactions of another database; and what refused
 //! memory leaves.
 
-use crate::primary_steps::{Change, Line, Step, other_story};
+use crate::primary_steps::{Change, Line, Step, expect_none, other_story};
 use primary::CommitFault;
 use scenarios_common::wanted::{FIVE, Wanted};
 use std::test::Fail;
@@ -132,7 +132,7 @@ static STORIES: [(u8, &[Line]); 8] = [
 
 #[test]
 fn commits_are_answered_by_what_stands(rt: HostRuntime) -> Result<(), Fail> {
-    assert_eq!(rt; other_story(rt.alloc(), &STORIES)?, None);
+    expect_none(&rt, other_story(rt.alloc(), &STORIES)?);
     Ok(())
 }
 
@@ -144,6 +144,6 @@ static REPLACED_AND_DURABLE: [Line; 4] = [INSERT_7, FLUSH, REPLACE_7, (Step::Flu
 #[test]
 fn a_commit_and_a_flush_without_memory_change_nothing(rt: HostRuntime) -> Result<(), Fail> {
     let other = other_story(rt.alloc(), &[(1, &REPLACED_AND_DURABLE)])?;
-    assert_eq!(rt; other, None);
+    expect_none(&rt, other);
     Ok(())
 }

@@ -1,6 +1,6 @@
 //! Images: the entries that rebuild the tables of each version.
 
-use crate::accounts::{Cell, is_absorbed, is_held, value_of, versions_of};
+use crate::accounts::{Cell, absorb, is_held, value_of, versions_of};
 use mvcc::{ImagePlace, Versions};
 use rows::{Entry, EntryList, Kind};
 use scenarios_common::wanted::{SIX, Table, Wanted, all_made};
@@ -145,9 +145,7 @@ fn entries_of(alloc: Global, step: &Step) -> Result<EntryList, Fail> {
 fn absorb_history(alloc: Global, versions: &mut Versions) -> Result<(), Fail> {
     for step in &HISTORY {
         let entries = entries_of(alloc, step)?;
-        if !is_absorbed(versions, entries.as_slice())? {
-            return Err("out of memory".into());
-        }
+        absorb(versions, entries.as_slice())?;
     }
     Ok(())
 }
@@ -177,9 +175,12 @@ fn are_shown(image: &[Entry], shown: &[Shown]) -> bool {
 /// Whether an image, as one commit on tables as they are opened, has itself as the image.
 fn is_rebuilt(alloc: Global, image: &[Entry]) -> Result<bool, Fail> {
     let mut versions = versions_of(alloc, &TABLES, &[])?;
-    if !is_absorbed(&mut versions, image)? {
-        return Err("out of memory".into());
-    }
+    is_image_of(&mut versions, image)
+}
+
+/// Whether an image, as the first commit, has itself as the image.
+fn is_image_of(versions: &mut Versions, image: &[Entry]) -> Result<bool, Fail> {
+    absorb(versions, image)?;
     let again = versions.image(1)?;
     Ok(again.as_slice() == image)
 }
@@ -195,16 +196,27 @@ fn image_in_parts(
     most: usize,
 ) -> Result<Vec<Entry>, Fail> {
     let mut image = Vec::new(alloc);
+    push_image(versions, version, most, &mut image)?;
+    Ok(image)
+}
+
+/// Makes the same at the end of a list.
+fn push_image(
+    versions: &Versions,
+    version: u64,
+    most: usize,
+    image: &mut Vec<Entry>,
+) -> Result<(), Fail> {
     let mut place = Some(ImagePlace::first());
     for _ in 0..PARTS_MAX {
         if let Some(begin) = place {
-            place = versions.push_image_part(version, begin, most, &mut image)?;
+            place = versions.push_image_part(version, begin, most, image)?;
         }
     }
     if place.is_some() {
         return Err("an image in too many parts".into());
     }
-    Ok(image)
+    Ok(())
 }
 
 /// Whether the image of a version is the one that is shown, made at once and in parts of 0 to 2 rows.
@@ -215,21 +227,46 @@ fn is_pictured(
     shown: &[Shown],
 ) -> Result<bool, Fail> {
     let image = versions.image(version)?;
+    Ok(
+        is_joined(alloc, versions, version, image.as_slice())?
+            && are_shown(image.as_slice(), shown)
+            && is_rebuilt(alloc, image.as_slice())?,
+    )
+}
+
+/// Whether the image of a version is this one, made in parts of 0 to 2 rows.
+fn is_joined(
+    alloc: Global,
+    versions: &Versions,
+    version: u64,
+    image: &[Entry],
+) -> Result<bool, Fail> {
     for most in 0..3 {
         let joined = image_in_parts(alloc, versions, version, most)?;
-        if joined.as_slice() != image.as_slice() {
+        if joined.as_slice() != image {
             return Ok(false);
         }
     }
-    Ok(are_shown(image.as_slice(), shown) && is_rebuilt(alloc, image.as_slice())?)
+    Ok(true)
+}
+
+/// The versions with the commits of the history.
+fn versions_behind(alloc: Global) -> Result<Versions, Fail> {
+    let mut versions = versions_of(alloc, &TABLES, &[])?;
+    absorb_history(alloc, &mut versions)?;
+    Ok(versions)
 }
 
 /// The first version whose image is another than the one that is shown.
 fn other_picture(alloc: Global) -> Result<Option<u64>, Fail> {
-    let mut versions = versions_of(alloc, &TABLES, &[])?;
-    absorb_history(alloc, &mut versions)?;
+    let versions = versions_behind(alloc)?;
+    other_picture_of(alloc, &versions)
+}
+
+/// The same of these versions.
+fn other_picture_of(alloc: Global, versions: &Versions) -> Result<Option<u64>, Fail> {
     for (version, shown) in &PICTURES {
-        if !is_pictured(alloc, &versions, *version, shown)? {
+        if !is_pictured(alloc, versions, *version, shown)? {
             return Ok(Some(*version));
         }
     }
@@ -252,10 +289,14 @@ fn image_at_last(versions: &Versions, version: u64) -> Result<Vec<Entry>, Fail> 
 
 /// Whether the image of a version with rows and added columns is the one that is shown, at last.
 fn is_made_at_last(alloc: Global) -> Result<bool, Fail> {
-    let mut versions = versions_of(alloc, &TABLES, &[])?;
-    absorb_history(alloc, &mut versions)?;
-    let (version, shown) = &PICTURES[5];
-    let image = image_at_last(&versions, *version)?;
+    let versions = versions_behind(alloc)?;
+    is_shown_at_last(&versions, &PICTURES[5])
+}
+
+/// Whether the image of a version is the one that is shown, at last.
+fn is_shown_at_last(versions: &Versions, picture: &Picture) -> Result<bool, Fail> {
+    let (version, shown) = picture;
+    let image = image_at_last(versions, *version)?;
     Ok(are_shown(image.as_slice(), shown))
 }
 
@@ -281,20 +322,30 @@ static PARTS: [(u8, u64, usize, bool); 7] = [
 
 /// The first part that has other entries, by its place among those above.
 fn other_part(alloc: Global) -> Result<Option<usize>, Fail> {
-    let mut versions = versions_of(alloc, &TABLES, &[])?;
-    absorb_history(alloc, &mut versions)?;
+    let versions = versions_behind(alloc)?;
+    other_part_of(alloc, &versions)
+}
+
+/// The same of these versions.
+fn other_part_of(alloc: Global, versions: &Versions) -> Result<Option<usize>, Fail> {
     for (index, (table, row, count, goes_on)) in PARTS.iter().enumerate() {
-        let mut image = Vec::new(alloc);
         let begin = ImagePlace {
             table: *table,
             row: *row,
         };
-        let next = versions.push_image_part(5, begin, usize::MAX, &mut image)?;
-        if image.len() != *count || next.is_some() != *goes_on {
+        if part_at(alloc, versions, begin)? != (*count, *goes_on) {
             return Ok(Some(index));
         }
     }
     Ok(None)
+}
+
+/// How many entries the part of the image of version 5 has that begins at this place, and whether
+/// another follows.
+fn part_at(alloc: Global, versions: &Versions, begin: ImagePlace) -> Result<(usize, bool), Fail> {
+    let mut image = Vec::new(alloc);
+    let next = versions.push_image_part(5, begin, usize::MAX, &mut image)?;
+    Ok((image.len(), next.is_some()))
 }
 
 /// From the last row of a table on it is that row alone; from behind the tables that there are, nothing.

@@ -1,11 +1,9 @@
 //! A journal that is lent out while it is written: what a primary answers meanwhile, and how the flush
 //! ends.
 
-ghost use Rattle.std.specs.Prelude.{◌≡◌};
-
 use crate::primary_steps::{Change, Line, Step, other_step_of, start};
 use journal::MemJournal;
-use primary::{CommitFault, FlushFault, PrimaryCore};
+use primary::{CommitFault, FlushFault, PrimaryCore, Work};
 use scenarios_common::worker_datagrams::{ASK, FRAME, HEAD_OF_NOTHING};
 use std::alloc::Global;
 use std::test::Fail;
@@ -45,49 +43,67 @@ static AFTER: [Line; 3] = [
 ];
 
 /// Whether a flush of one commit begins, is written and ends as it should around those steps.
-fn is_lent(alloc: Global, primary: &mut PrimaryCore<MemJournal>) -> Result<bool, Fail>
-    requires { primary.old.primary.workers ≡ 2 }
-{
-    let Ok(work) = primary.begin_flush(1) else {
-        return Err("the flush did not begin".into());
-    };
+fn is_lent(alloc: Global, primary: &mut PrimaryCore<MemJournal>) -> Result<bool, Fail> {
+    match primary.begin_flush(1) {
+        Ok(work) => is_ended(alloc, primary, work),
+        Err(_) => Err("the flush did not begin".into()),
+    }
+}
+
+/// Whether a flush that has begun is written and ends as it should behind those steps.
+fn is_ended(
+    alloc: Global,
+    primary: &mut PrimaryCore<MemJournal>,
+    work: Work<MemJournal>,
+) -> Result<bool, Fail> {
     let other = other_step_of(alloc, 2, primary, &MEANWHILE);
     let was_lent = primary.lent();
     let ended = primary.end_flush(work.write());
-    Ok(other?.is_none() && was_lent && ended == Ok(1) && !primary.lent())
+    let is_ended = was_lent && ended == Ok(1) && !primary.lent();
+    Ok(other?.is_none() && is_ended)
 }
 
 /// The same between the steps before and after it.
-fn is_lent_between(alloc: Global) -> Result<bool, Fail> {
-    let mut primary = start(alloc, 2)?;
-    let before = other_step_of(alloc, 2, &mut primary, &BEFORE)?;
-    let lent = is_lent(alloc, &mut primary)?;
-    if primary.workers() != 2 {
-        return Err("no such number of workers".into());
-    }
-    let after = other_step_of(alloc, 2, &mut primary, &AFTER)?;
+fn is_lent_between(alloc: Global, primary: &mut PrimaryCore<MemJournal>) -> Result<bool, Fail> {
+    let before = other_step_of(alloc, 2, primary, &BEFORE)?;
+    let lent = is_lent(alloc, primary)?;
+    let after = other_step_of(alloc, 2, primary, &AFTER)?;
     Ok(before.is_none() && lent && after.is_none())
+}
+
+/// The same of a fresh primary.
+fn is_lent_by_one(alloc: Global) -> Result<bool, Fail> {
+    let mut primary = start(alloc, 2)?;
+    is_lent_between(alloc, &mut primary)
 }
 
 #[test]
 fn a_primary_commits_while_its_journal_is_written(rt: HostRuntime) -> Result<(), Fail> {
-    assert!(rt; is_lent_between(rt.alloc())?);
+    assert!(rt; is_lent_by_one(rt.alloc())?);
     Ok(())
 }
 
 /// Whether a flush that one primary began is refused by another one, which has its journal.
 fn is_not_lent(one: &mut PrimaryCore<MemJournal>, other: &mut PrimaryCore<MemJournal>) -> bool {
     match one.begin_flush(0) {
-        Ok(work) => other.end_flush(work.write()) == Err(FlushFault::NotLent) && one.lent(),
+        Ok(work) => {
+            let ended = other.end_flush(work.write());
+            ended == Err(FlushFault::NotLent) && one.lent() && !other.lent()
+        }
         Err(_) => false,
     }
+}
+
+/// The same of another one without commits.
+fn is_not_lent_to_other(alloc: Global, one: &mut PrimaryCore<MemJournal>) -> Result<bool, Fail> {
+    let mut other = start(alloc, 1)?;
+    Ok(is_not_lent(one, &mut other))
 }
 
 /// The same of primaries without commits.
 fn is_not_lent_elsewhere(alloc: Global) -> Result<bool, Fail> {
     let mut one = start(alloc, 1)?;
-    let mut other = start(alloc, 1)?;
-    Ok(is_not_lent(&mut one, &mut other) && !other.lent())
+    is_not_lent_to_other(alloc, &mut one)
 }
 
 #[test]

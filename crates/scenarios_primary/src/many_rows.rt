@@ -97,18 +97,32 @@ fn transaction_of(
     task: Task,
 ) -> Result<Transaction, Fail> {
     let mut transaction = Transaction::begin(alloc, versions.len());
-    let after = size_after(size, task);
-    let values = row_of(alloc, after.columns)?;
+    let values = row_of(alloc, size_after(size, task).columns)?;
+    draft(versions, &mut transaction, values.as_slice(), size, task)?;
+    Ok(transaction)
+}
+
+/// Does the task in a transaction; each row that it inserts has these values.
+fn draft(
+    versions: &Versions,
+    transaction: &mut Transaction,
+    values: &[Value],
+    size: Size,
+    task: Task,
+) -> Result<(), Fail> {
+    if transaction.snapshot() > versions.len() {
+        return Err("no such version".into());
+    }
     if task.adds {
         transaction.add_column(versions, 0, Value::Int(7))?;
     }
-    for row in size.rows..after.rows {
+    for row in size.rows..size_after(size, task).rows {
         if transaction.snapshot() > versions.len() {
             return Err("no such version".into());
         }
-        transaction.insert(versions, 0, RowId(row), values.as_slice())?;
+        transaction.insert(versions, 0, RowId(row), values)?;
     }
-    Ok(transaction)
+    Ok(())
 }
 
 /// Makes the commit of a task durable, and tells how many nanoseconds the calls of its transaction took, how many the
@@ -171,18 +185,27 @@ fn run_asked<R: Env + Alloc>(rt: &R) -> Run {
     }
 }
 
-#[test]
-fn columns_are_added_to_many_rows(rt: HostRuntime) -> Result<(), Fail> {
-    let alloc = rt.alloc();
-    let mut primary = start(alloc, 1)?;
-    let run = run_asked(&rt);
-    let mut size = fill(&rt, alloc, &mut primary, run)?;
+/// Makes all commits of the run that is asked for at a fresh primary, and prints what each took.
+fn time_all(rt: &HostRuntime) -> Result<(), Fail> {
+    let mut primary = start(rt.alloc(), 1)?;
+    time_all_at(rt, &mut primary)
+}
+
+/// The same at this primary.
+fn time_all_at(rt: &HostRuntime, primary: &mut PrimaryCore<MemJournal>) -> Result<(), Fail> {
+    let run = run_asked(rt);
+    let mut size = fill(rt, rt.alloc(), primary, run)?;
     for _ in 0..run.times {
         for task in tasks_of(run) {
-            let taken = timed(&rt, alloc, &mut primary, size, task)?;
+            let taken = timed(rt, rt.alloc(), primary, size, task)?;
             size = size_after(size, task);
             println!(rt; "{} {} {} {}", task.word, taken[0], taken[1], taken[2])?;
         }
     }
     Ok(())
+}
+
+#[test]
+fn columns_are_added_to_many_rows(rt: HostRuntime) -> Result<(), Fail> {
+    time_all(&rt)
 }

@@ -5,9 +5,10 @@ use crate::primary_starts::{
     CUT, DELETED, FAILED, FIRST_APPEND, FIRST_FLUSH, History, NONE, READ, RECOVERED, Started, live,
     other_history,
 };
+use crate::primary_steps::expect_none;
 use journal::Form;
 use scenarios_journal_common::failing_journal::{Failing, FailingJournal, Failure};
-use scenarios_journal_common::journal_cases::{HEADER_LEN, JOURNAL, MARK, bytes_of};
+use scenarios_journal_common::journal_cases::{JOURNAL_HEADER, MARK, bytes_of, front};
 use scenarios_journal_common::old_journal_cases::{
     Formed, MARK_AND_DELETE, OLD, OLD_CASES, OldCase,
 };
@@ -18,8 +19,8 @@ use std::test::Fail;
 /// none are kept, and the mark behind those of version 1.
 fn marked(alloc: Global, bytes: &[u8], recovered: &Formed) -> Result<Vec<u8>, Fail> {
     let (kept, form) = match recovered {
-        Ok((_, 0, _)) => (JOURNAL.split_at(HEADER_LEN).0, Form::New),
-        Ok((_, kept, form)) => (bytes.split_at(bytes.len().min(*kept as usize)).0, *form),
+        Ok((_, 0, _)) => (JOURNAL_HEADER.as_slice(), Form::New),
+        Ok((_, kept, form)) => (front(bytes, *kept as usize), *form),
         Err(_) => (bytes, Form::New),
     };
     let mut left = Vec::from_slice(alloc, kept)?;
@@ -42,13 +43,23 @@ fn starts_on_old(alloc: Global, case: &OldCase) -> Result<bool, Fail> {
     let (len, changes, behind, recovered) = case;
     let bytes = bytes_of(alloc, &(*len, *changes, *behind))?;
     let left = marked(alloc, &bytes, recovered)?;
-    let mut journal = FailingJournal::of(bytes, NONE);
+    let journal = FailingJournal::of(bytes, NONE);
+    starts_twice(alloc, journal, started_on_old(recovered), left.as_slice())
+}
+
+/// Whether a primary starts so on a journal, and then on what stands there, which is this both times.
+fn starts_twice(
+    alloc: Global,
+    mut journal: FailingJournal,
+    started: Started,
+    left: &[u8],
+) -> Result<bool, Fail> {
     for _ in 0..2 {
-        let (found, is_lived) = live(alloc, journal, started_on_old(recovered), &[])?;
-        if !is_lived || found.content() != left.as_slice() {
+        let (found, is_lived) = live(alloc, journal, started, &[])?;
+        journal = found;
+        if !is_lived || journal.content() != left {
             return Ok(false);
         }
-        journal = found;
     }
     Ok(true)
 }
@@ -185,9 +196,9 @@ static BEHIND_MARK: [History; 2] = [
 
 #[test]
 fn a_mark_that_a_store_refuses_is_written_again(rt: HostRuntime) -> Result<(), Fail> {
-    for histories in [MARK_LOST.as_slice(), &OLD_NOT_CUT, &BEHIND_MARK] {
-        assert_eq!(rt; other_history(rt.alloc(), histories)?, None);
-    }
+    expect_none(&rt, other_history(rt.alloc(), &MARK_LOST)?);
+    expect_none(&rt, other_history(rt.alloc(), &OLD_NOT_CUT)?);
+    expect_none(&rt, other_history(rt.alloc(), &BEHIND_MARK)?);
     Ok(())
 }
 
@@ -204,6 +215,6 @@ static OLD_TORN: [History; 1] = [(
 /// that keeps what it kept, and the next one marks it.
 #[test]
 fn an_old_journal_without_memory_keeps_what_it_kept(rt: HostRuntime) -> Result<(), Fail> {
-    assert_eq!(rt; other_history(rt.alloc(), &OLD_TORN)?, None);
+    expect_none(&rt, other_history(rt.alloc(), &OLD_TORN)?);
     Ok(())
 }

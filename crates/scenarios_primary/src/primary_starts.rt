@@ -1,8 +1,7 @@
 //! A primary on a journal: what it starts with and what then stands there, whatever a stop left or a
 //! store refused, and what becomes of commits whose records the journal did not take.
-ghost use Rattle.std.specs.Prelude.{◌≡◌, IfOk};
 
-use crate::primary_steps::{Change, Line, Step, other_step_of};
+use crate::primary_steps::{Change, Line, Step, expect_none, other_step_of};
 use journal::{JournalFault, JournalStore};
 use primary::{CommitFault, FlushFault, PrimaryCore, StartFault};
 use rows::Schema;
@@ -12,7 +11,7 @@ use scenarios_common::worker_datagrams::{
 };
 use scenarios_journal_common::failing_journal::{Failing, FailingJournal, Failure, Refused};
 use scenarios_journal_common::journal_cases::{
-    Bytes, CASES, Case, DELETE_7, HEADER_LEN, JOURNAL, JOURNAL_RECORD, bytes_of,
+    Bytes, CASES, Case, DELETE_7, JOURNAL_HEADER, JOURNAL_RECORD, bytes_of, front,
 };
 use scenarios_journal_common::old_journal_cases::OLD;
 use std::alloc::Global;
@@ -41,20 +40,31 @@ pub type History = (Bytes, Failure, &'static [Life]);
 type Outcome = Result<PrimaryCore<FailingJournal>, (FailingJournal, StartFault<Refused>)>;
 
 /// A primary of two workers, on a journal; asked for again where memory was refused.
-fn start(alloc: Global, journal: FailingJournal) -> Result<Outcome, Fail>
-    ensures { IfOk result (λ outcome. IfOk outcome (λ core. core.primary.workers ≡ 2)) }
-{
+fn start(alloc: Global, journal: FailingJournal) -> Result<Outcome, Fail> {
     let schema = Schema::new(alloc, &NUMBERS)?;
-    match start_once(alloc, journal, &schema)? {
-        Err((journal, StartFault::Memory)) => start_once(alloc, journal, &schema),
-        outcome => Ok(outcome),
+    start_with(alloc, journal, &schema)
+}
+
+/// The same of a schema.
+fn start_with(alloc: Global, journal: FailingJournal, schema: &Schema) -> Result<Outcome, Fail> {
+    match refused(start_once(alloc, journal, schema)?) {
+        Ok(journal) => start_once(alloc, journal, schema),
+        Err(outcome) => Ok(outcome),
+    }
+}
+
+/// The journal that was handed back for want of memory, or else what was answered.
+fn refused<C, J, F: Drop>(
+    outcome: Result<C, (J, StartFault<F>)>,
+) -> Result<J, Result<C, (J, StartFault<F>)>> {
+    match outcome {
+        Err((journal, StartFault::Memory)) => Ok(journal),
+        outcome => Err(outcome),
     }
 }
 
 /// The same, asked for once.
-fn start_once(alloc: Global, journal: FailingJournal, schema: &Schema) -> Result<Outcome, Fail>
-    ensures { IfOk result (λ outcome. IfOk outcome (λ core. core.primary.workers ≡ 2)) }
-{
+fn start_once(alloc: Global, journal: FailingJournal, schema: &Schema) -> Result<Outcome, Fail> {
     if journal.faults() == u64::MAX {
         return Err("too many faults".into());
     }
@@ -80,16 +90,30 @@ fn live_on(
     mut primary: PrimaryCore<FailingJournal>,
     started: Started,
     story: &[Line],
-) -> Result<(FailingJournal, bool), Fail>
-    requires { primary.primary.workers ≡ 2 }
-{
+) -> Result<(FailingJournal, bool), Fail> {
+    let is_lived = is_lived(alloc, &mut primary, started, story)?;
+    Ok((journal_of(primary)?, is_lived))
+}
+
+/// Whether the life of a primary that was started goes so.
+fn is_lived(
+    alloc: Global,
+    primary: &mut PrimaryCore<FailingJournal>,
+    started: Started,
+    story: &[Line],
+) -> Result<bool, Fail> {
     primary.keeps_legal();
     let is_started = started == Started::Durable(primary.durable());
-    let other = other_step_of(alloc, 2, &mut primary, story)?;
+    let other = other_step_of(alloc, 2, primary, story)?;
+    Ok(is_started && other.is_none())
+}
+
+/// The journal of a primary.
+fn journal_of<J: JournalStore + Drop>(primary: PrimaryCore<J>) -> Result<J, Fail> {
     if primary.lent() {
         return Err("the journal is lent out".into());
     }
-    Ok((primary.into_journal(), is_started && other.is_none()))
+    Ok(primary.into_journal())
 }
 
 /// Whether this is why a start was refused.
@@ -104,15 +128,30 @@ fn is_fault(fault: &StartFault<Refused>, started: Started) -> bool {
 /// The index of the first life of a history that goes otherwise.
 fn other_life(alloc: Global, history: &History) -> Result<Option<usize>, Fail> {
     let (bytes, failure, lives) = history;
-    let mut journal = FailingJournal::of(bytes_of(alloc, bytes)?, *failure);
+    let journal = FailingJournal::of(bytes_of(alloc, bytes)?, *failure);
+    other_life_on(alloc, journal, lives)
+}
+
+/// The same of these lives, on a journal.
+fn other_life_on(
+    alloc: Global,
+    mut journal: FailingJournal,
+    lives: &[Life],
+) -> Result<Option<usize>, Fail> {
     for (index, (started, story, stands)) in lives.iter().enumerate() {
         let (left, is_lived) = live(alloc, journal, *started, story)?;
-        if !is_lived || left.content() != bytes_of(alloc, stands)?.as_slice() {
+        journal = left;
+        if !is_lived || !is_left(alloc, &journal, stands)? {
             return Ok(Some(index));
         }
-        journal = left;
     }
     Ok(None)
+}
+
+/// Whether these bytes stand in a journal.
+fn is_left(alloc: Global, journal: &FailingJournal, stands: &Bytes) -> Result<bool, Fail> {
+    let expected = bytes_of(alloc, stands)?;
+    Ok(journal.content() == expected.as_slice())
 }
 
 /// The first of these histories that goes otherwise, and the index of its life.
@@ -145,8 +184,8 @@ fn started_of(recovered: &Result<(usize, u64), JournalFault>) -> Started {
 /// refused.
 fn standing<'a>(bytes: &'a [u8], recovered: &Result<(usize, u64), JournalFault>) -> &'a [u8] {
     match recovered {
-        Ok((_, 0)) => JOURNAL.split_at(HEADER_LEN).0,
-        Ok((_, kept)) => bytes.split_at(bytes.len().min(*kept as usize)).0,
+        Ok((_, 0)) => &JOURNAL_HEADER,
+        Ok((_, kept)) => front(bytes, *kept as usize),
         Err(_) => bytes,
     }
 }
@@ -155,9 +194,18 @@ fn standing<'a>(bytes: &'a [u8], recovered: &Result<(usize, u64), JournalFault>)
 fn starts_on(alloc: Global, case: &Case) -> Result<bool, Fail> {
     let (len, changes, behind, recovered) = case;
     let bytes = bytes_of(alloc, &(*len, *changes, *behind))?;
-    let journal = FailingJournal::of(Vec::from_slice(alloc, &bytes)?, NONE);
+    starts_on_bytes(alloc, bytes.as_slice(), recovered)
+}
+
+/// Whether a primary starts on bytes as is recovered of them.
+fn starts_on_bytes(
+    alloc: Global,
+    bytes: &[u8],
+    recovered: &Result<(usize, u64), JournalFault>,
+) -> Result<bool, Fail> {
+    let journal = FailingJournal::of(Vec::from_slice(alloc, bytes)?, NONE);
     let (left, is_lived) = live(alloc, journal, started_of(recovered), &[])?;
-    Ok(is_lived && left.content() == standing(&bytes, recovered))
+    Ok(is_lived && left.content() == standing(bytes, recovered))
 }
 
 /// The index of the first case on which a primary starts otherwise.
@@ -297,9 +345,9 @@ static NOT_CUT: [History; 4] = [
 
 #[test]
 fn a_start_that_a_store_refuses_loses_nothing(rt: HostRuntime) -> Result<(), Fail> {
-    for histories in [HEADER_LOST.as_slice(), &NOT_READ, &NOT_CUT] {
-        assert_eq!(rt; other_history(rt.alloc(), histories)?, None);
-    }
+    expect_none(&rt, other_history(rt.alloc(), &HEADER_LOST)?);
+    expect_none(&rt, other_history(rt.alloc(), &NOT_READ)?);
+    expect_none(&rt, other_history(rt.alloc(), &NOT_CUT)?);
     Ok(())
 }
 
@@ -453,7 +501,7 @@ pub const FIRST_FLUSH: Failure = Failure {
 
 #[test]
 fn a_flush_that_the_journal_refuses_moves_nothing(rt: HostRuntime) -> Result<(), Fail> {
-    assert_eq!(rt; other_history(rt.alloc(), &FLUSHES)?, None);
+    expect_none(&rt, other_history(rt.alloc(), &FLUSHES)?);
     Ok(())
 }
 
@@ -472,7 +520,7 @@ static WORKERS: [History; 1] = [(
 
 #[test]
 fn a_commit_is_recovered_with_its_worker(rt: HostRuntime) -> Result<(), Fail> {
-    assert_eq!(rt; other_history(rt.alloc(), &WORKERS)?, None);
+    expect_none(&rt, other_history(rt.alloc(), &WORKERS)?);
     Ok(())
 }
 
@@ -510,8 +558,8 @@ static FAILING_ONCE: [History; 1] = [(
 /// where the journal fails.
 #[test]
 fn a_start_without_memory_loses_nothing(rt: HostRuntime) -> Result<(), Fail> {
-    for histories in [TORN.as_slice(), &EMPTY, &FAILING_ONCE] {
-        assert_eq!(rt; other_history(rt.alloc(), histories)?, None);
-    }
+    expect_none(&rt, other_history(rt.alloc(), &TORN)?);
+    expect_none(&rt, other_history(rt.alloc(), &EMPTY)?);
+    expect_none(&rt, other_history(rt.alloc(), &FAILING_ONCE)?);
     Ok(())
 }

@@ -1,6 +1,6 @@
 //! A primary of accounts, each two numbers, and steps that it takes.
 
-ghost use Rattle.std.specs.Prelude.{◌≡◌, ◌<◌, ◌≤◌, IfOk};
+ghost use Rattle.std.specs.Prelude.{◌<◌, ◌≤◌};
 ghost use Rattle.rows.specs.Limits.{workers_max};
 
 use crate::accounts::versions_of;
@@ -11,6 +11,7 @@ use rows::{RowId, Schema, Value};
 use scenarios_common::wanted::{NUMBERS, Wanted};
 use scenarios_common::worker_datagrams::{pull_of, want_of};
 use std::alloc::{AllocError, Global};
+use std::process::Abort;
 use std::test::Fail;
 use wire::{Datagram, Out, To, read};
 
@@ -76,6 +77,11 @@ pub fn other_story(
     Ok(None)
 }
 
+/// Stops the test where something goes otherwise, and tells what does.
+pub fn expect_none<R: Abort>(rt: &R, other: Option<(usize, usize)>) {
+    assert_eq!(rt; other, None);
+}
+
 /// The index of the first step that a fresh primary answers otherwise.
 fn other_step(alloc: Global, workers: u8, story: &[Line]) -> Result<Option<usize>, Fail> {
     if workers == 0 || workers > 16 {
@@ -89,28 +95,40 @@ fn other_step(alloc: Global, workers: u8, story: &[Line]) -> Result<Option<usize
 pub fn start(alloc: Global, workers: u8) -> Result<PrimaryCore<MemJournal>, Fail>
     requires some { 0 < workers }
     requires few { workers ≤ workers_max }
-    ensures { IfOk result (λ primary. primary.primary.workers ≡ workers) }
 {
     let schema = Schema::new(alloc, &NUMBERS)?;
-    match PrimaryCore::start(alloc, MemJournal::new(alloc), &schema, workers) {
+    start_with(alloc, &schema, workers)
+}
+
+/// The same of a schema.
+fn start_with(alloc: Global, schema: &Schema, workers: u8) -> Result<PrimaryCore<MemJournal>, Fail>
+    requires some { 0 < workers }
+    requires few { workers ≤ workers_max }
+{
+    started(PrimaryCore::start(alloc, MemJournal::new(alloc), schema, workers))
+}
+
+/// What was started, or why nothing was.
+fn started<C: Drop, J: Drop, F: Drop>(outcome: Result<C, (J, StartFault<F>)>) -> Result<C, Fail> {
+    match outcome {
         Ok(primary) => Ok(primary),
         Err((_, StartFault::Memory)) => Err("out of memory".into()),
         Err(_) => Err("not started".into()),
     }
 }
 
-/// The index of the first step that a primary answers otherwise.
+/// The index of the first step that a primary of so many workers answers otherwise.
 pub fn other_step_of<J: JournalStore + Drop>(
     alloc: Global,
     workers: u8,
     primary: &mut PrimaryCore<J>,
     story: &[Line],
-) -> Result<Option<usize>, Fail>
-    requires { primary.old.primary.workers ≡ workers }
-    ensures { primary.new.primary.workers ≡ workers }
-{
+) -> Result<Option<usize>, Fail> {
+    if primary.workers() != workers {
+        return Err("no such number of workers".into());
+    }
     for (index, (step, durable, pending)) in story.iter().enumerate() {
-        if !is_answered(alloc, workers, primary, step)? || counts(primary) != (*durable, *pending) {
+        if !is_answered(alloc, primary, step)? || counts(primary) != (*durable, *pending) {
             return Ok(Some(index));
         }
     }
@@ -125,47 +143,81 @@ fn counts<J: JournalStore>(primary: &PrimaryCore<J>) -> (u64, usize) {
 /// Whether this step answers as it should.
 fn is_answered<J: JournalStore + Drop>(
     alloc: Global,
-    workers: u8,
     primary: &mut PrimaryCore<J>,
     step: &Step,
-) -> Result<bool, Fail>
-    requires { primary.old.primary.workers ≡ workers }
-    ensures { primary.new.primary.workers ≡ workers }
-{
+) -> Result<bool, Fail> {
     match step {
         Step::Commit(worker, version, changes, expected) => {
-            if *worker >= workers {
-                return Err("no such worker".into());
-            }
-            let transaction = transaction(alloc, primary.versions(), *version, changes)?;
-            Ok(is_committed(primary, transaction, *worker, *expected))
+            are_committed(alloc, primary, *worker, *version, changes, *expected)
         }
-        Step::CommitOf(commits, changes) => {
-            if workers == 0 {
-                return Err("no such worker".into());
-            }
-            let transaction = transaction_elsewhere(alloc, commits, changes)?;
-            Ok(is_committed(primary, transaction, 0, Err(CommitFault::Foreign)))
-        }
+        Step::CommitOf(commits, changes) => are_foreign(alloc, primary, commits, changes),
         Step::Flush(count, durable) => is_flushed(primary, *count, Ok(*durable)),
         Step::FlushRefused(count, fault) => is_flushed(primary, *count, Err(*fault)),
         Step::PendingText(expected) => is_pending_text(primary, expected),
         Step::Push(worker, seq, expected) => Ok(is_pushed(primary, *worker, *seq, *expected)),
         Step::Receive(bytes, expected) => is_received(primary, bytes, *expected),
         Step::Want(replica, worker, from, lens) => {
-            let outs = sent(primary, &want_of(*replica, *worker, *from))?;
-            Ok(are_frames(outs.as_slice(), *replica, *worker, *from, lens))
+            are_frames_sent(primary, *replica, *worker, *from, *from, lens)
         }
-        Step::WantAcross(from, kept, lens) => {
-            let outs = sent(primary, &want_of(0, 0, *from))?;
-            Ok(are_frames(outs.as_slice(), 0, 0, *kept, lens))
-        }
+        Step::WantAcross(from, kept, lens) => are_frames_sent(primary, 0, 0, *from, *kept, lens),
         Step::Base(base, pieces) => is_based(primary, (*base, *pieces)),
         Step::Pull(replica, base, from, lens) => {
-            let outs = sent(primary, &pull_of(*replica, *base, *from))?;
-            Ok(are_pieces(outs.as_slice(), *replica, *base, *from, lens))
+            are_pieces_sent(primary, *replica, *base, *from, lens)
         }
     }
+}
+
+/// Whether the commit for a worker of a transaction on that version with these changes is answered
+/// so.
+fn are_committed<J: JournalStore>(
+    alloc: Global,
+    primary: &mut PrimaryCore<J>,
+    worker: u8,
+    version: u64,
+    changes: &[Change],
+    expected: Result<u64, CommitFault>,
+) -> Result<bool, Fail> {
+    let transaction = transaction(alloc, primary.versions(), version, changes)?;
+    is_committed(primary, transaction, worker, expected)
+}
+
+/// Whether these changes are refused as foreign, in a transaction of worker 0 on the newest version
+/// of a database that has those commits.
+fn are_foreign<J: JournalStore>(
+    alloc: Global,
+    primary: &mut PrimaryCore<J>,
+    commits: &[&[Wanted<'_>]],
+    changes: &[Change],
+) -> Result<bool, Fail> {
+    let transaction = transaction_elsewhere(alloc, commits, changes)?;
+    is_committed(primary, transaction, 0, Err(CommitFault::Foreign))
+}
+
+/// Whether a replica that wants a worker's frames from a seq on is sent those that are kept, from
+/// the second seq on, of these lengths.
+fn are_frames_sent<J: JournalStore>(
+    primary: &PrimaryCore<J>,
+    replica: u8,
+    worker: u8,
+    from: u64,
+    kept: u64,
+    lens: &[usize],
+) -> Result<bool, Fail> {
+    let outs = sent(primary, &want_of(replica, worker, from))?;
+    Ok(are_frames(outs.as_slice(), replica, worker, kept, lens))
+}
+
+/// Whether a replica that wants the pieces of a base from a number on is sent those, of these
+/// lengths.
+fn are_pieces_sent<J: JournalStore>(
+    primary: &PrimaryCore<J>,
+    replica: u8,
+    base: u64,
+    from: u64,
+    lens: &[usize],
+) -> Result<bool, Fail> {
+    let outs = sent(primary, &pull_of(replica, base, from))?;
+    Ok(are_pieces(outs.as_slice(), replica, base, from, lens))
 }
 
 /// A transaction on that version with these changes.
@@ -228,19 +280,20 @@ fn is_committed<J: JournalStore>(
     transaction: Transaction,
     worker: u8,
     expected: Result<u64, CommitFault>,
-) -> bool
-    requires { worker < primary.old.primary.workers }
-    ensures { primary.new.primary.workers ≡ primary.old.primary.workers }
-{
+) -> Result<bool, Fail> {
+    if worker >= primary.workers() {
+        return Err("no such worker".into());
+    }
     let given = (worker, transaction.snapshot(), transaction.entries().len());
     let before = counts(primary);
-    match primary.commit(transaction, worker) {
+    Ok(match primary.commit(transaction, worker) {
         Err((transaction, CommitFault::Memory)) => {
-            counts(primary) == before
-                && is_expected(primary.commit(transaction, worker), given, expected)
+            let kept = counts(primary) == before;
+            let committed = is_expected(primary.commit(transaction, worker), given, expected);
+            kept && committed
         }
         outcome => is_expected(outcome, given, expected),
-    }
+    })
 }
 
 /// The worker for which a transaction is committed, its snapshot, and how many entries it has.
@@ -274,9 +327,7 @@ fn is_flushed<J: JournalStore + Drop>(
     primary: &mut PrimaryCore<J>,
     count: usize,
     expected: Result<u64, FlushFault>,
-) -> Result<bool, Fail>
-    ensures { primary.new.primary.workers ≡ primary.old.primary.workers }
-{
+) -> Result<bool, Fail> {
     let before = counts(primary);
     let flushed = primary.flush(count);
     if flushed == Err(FlushFault::Memory) {
@@ -337,9 +388,7 @@ fn is_received<J: JournalStore>(
 fn is_based<J: JournalStore>(
     primary: &mut PrimaryCore<J>,
     expected: (u64, u64),
-) -> Result<bool, Fail>
-    ensures { primary.new.primary.workers ≡ primary.old.primary.workers }
-{
+) -> Result<bool, Fail> {
     let before = (counts(primary), primary.low(0));
     match primary.take_base() {
         Ok(taken) => Ok(taken == expected),

@@ -1,7 +1,7 @@
 //! Commits on their way from the primary: when they are durable, their frames byte by byte, what
 //! an Ask is answered, and which frames a Want.
 
-use crate::primary_steps::{Change, Line, Step, other_story};
+use crate::primary_steps::{Change, Line, Step, expect_none, other_story};
 use scenarios_common::worker_datagrams::{
     ASK, FRAME, HEAD, HEAD_OF_BOTH, PIECE, PULL, SECOND_FRAME,
 };
@@ -116,7 +116,7 @@ static STORIES: [(u8, &[Line]); 5] = [
 
 #[test]
 fn frames_are_sent_to_the_byte(rt: HostRuntime) -> Result<(), Fail> {
-    assert_eq!(rt; other_story(rt.alloc(), &STORIES)?, None);
+    expect_none(&rt, other_story(rt.alloc(), &STORIES)?);
     Ok(())
 }
 
@@ -131,6 +131,6 @@ static WANTED: [Line; 3] = [
 /// changed nothing, a flush has moved nothing, and a Want is answered when it comes again.
 #[test]
 fn two_frames_without_memory_are_sent_at_last(rt: HostRuntime) -> Result<(), Fail> {
-    assert_eq!(rt; other_story(rt.alloc(), &[(1, &WANTED)])?, None);
+    expect_none(&rt, other_story(rt.alloc(), &[(1, &WANTED)])?);
     Ok(())
 }

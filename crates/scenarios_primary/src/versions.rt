@@ -1,6 +1,7 @@
 //! Versions: what each call tells of a history of accounts, and what refused memory leaves.
 
-use crate::accounts::{ACCOUNTS, Cell, HISTORY, is_absorbed, is_held, versions_of};
+use crate::accounts::{Cell, is_absorbed, is_held, versions_behind};
+use crate::primary_steps::expect_none;
 use mvcc::Versions;
 use rows::{Commit, Entry, RowId};
 use scenarios_common::wanted::{Wanted, all_made};
@@ -156,8 +157,7 @@ fn shared<T: Send + Sync>(value: &T) -> &T {
 
 /// The index of the first look that finds something else behind so many commits of the history.
 fn other_found_behind(alloc: Global, count: usize, looks: &[Look]) -> Result<Option<usize>, Fail> {
-    let (commits, _) = HISTORY.split_at(count.min(5));
-    let versions = versions_of(alloc, &ACCOUNTS, commits)?;
+    let versions = versions_behind(alloc, count)?;
     other_found(alloc, shared(&versions), looks)
 }
 
@@ -173,7 +173,7 @@ fn other_story(alloc: Global) -> Result<Option<(usize, usize)>, Fail> {
 
 #[test]
 fn versions_tell_their_history(rt: HostRuntime) -> Result<(), Fail> {
-    assert_eq!(rt; other_story(rt.alloc())?, None);
+    expect_none(&rt, other_story(rt.alloc())?);
     Ok(())
 }
 
@@ -228,7 +228,7 @@ fn is_made_behind(alloc: Global, versions: &mut Versions) -> Result<bool, Fail> 
 
 /// The same of versions of its own.
 fn is_made(alloc: Global) -> Result<bool, Fail> {
-    let mut versions = versions_of(alloc, &ACCOUNTS, &HISTORY[..4])?;
+    let mut versions = versions_behind(alloc, 4)?;
     is_made_behind(alloc, &mut versions)
 }
 
@@ -290,9 +290,18 @@ fn other_added(
 
 /// Whether these commits are applied as they should be.
 fn are_applied(alloc: Global, applying: Applying) -> Result<bool, Fail> {
-    let mut versions = versions_of(alloc, &ACCOUNTS, &HISTORY[..4])?;
-    let other = other_added(alloc, &mut versions, applying)?;
-    Ok(other.is_none() && other_found(alloc, &versions, &BEHIND)?.is_none())
+    let mut versions = versions_behind(alloc, 4)?;
+    are_applied_to(alloc, &mut versions, applying)
+}
+
+/// The same behind four commits of the history.
+fn are_applied_to(
+    alloc: Global,
+    versions: &mut Versions,
+    applying: Applying,
+) -> Result<bool, Fail> {
+    let other = other_added(alloc, versions, applying)?;
+    Ok(other.is_none() && other_found(alloc, versions, &BEHIND)?.is_none())
 }
 
 /// A commit is added if its entries are defined, and otherwise changes nothing.
@@ -317,10 +326,15 @@ fn is_taken_over(alloc: Global, versions: &mut Versions, commit: Commit) -> Resu
 
 /// Whether that commit is handed over as it should be, behind four commits of the history.
 fn is_handed_over(alloc: Global) -> Result<bool, Fail> {
-    let mut versions = versions_of(alloc, &ACCOUNTS, &HISTORY[..4])?;
+    let mut versions = versions_behind(alloc, 4)?;
+    is_handed_over_to(alloc, &mut versions)
+}
+
+/// The same of these versions.
+fn is_handed_over_to(alloc: Global, versions: &mut Versions) -> Result<bool, Fail> {
     let commit = commit_of(alloc, &COMMIT)?;
-    let taken = is_taken_over(alloc, &mut versions, commit)?;
-    Ok(taken && other_found(alloc, &versions, &BEHIND)?.is_none())
+    let taken = is_taken_over(alloc, versions, commit)?;
+    Ok(taken && other_found(alloc, versions, &BEHIND)?.is_none())
 }
 
 /// Whichever request for memory is refused: a commit that was handed back has changed nothing, and
