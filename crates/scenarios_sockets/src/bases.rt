@@ -3,8 +3,9 @@
 
 ghost use Rattle.std.specs.Prelude.{◌≡◌, ◌<◌};
 
-use crate::cores::core_of;
+use crate::cores::{core_of, some};
 use journal::MemJournal;
+use mvcc::Transaction;
 use primary::PrimaryCore;
 use rows::{RowId, Value};
 use shared::{Line, Origin, Seat, Start};
@@ -45,7 +46,7 @@ const STEPS: [Step; 12] = [
 const PUSHED: [u8; 2] = [1, 3];
 
 /// Makes a row with 5 and -1 durable, by worker 0.
-fn inserts<L: Origin, R: Wait>(
+pub fn inserts<L: Origin, R: Wait>(
     rt: &R,
     alloc: Global,
     line: &Line<L, MemJournal, &R>,
@@ -54,16 +55,28 @@ fn inserts<L: Origin, R: Wait>(
 ) -> Option<()>
     requires { 0 < L.workers }
 {
+    let transaction = row_of(alloc, seat, row)?;
+    some(line.commit(rt, seat, transaction, 0))?;
+    some(line.flush(rt, seat, usize::MAX))?;
+    Some(())
+}
+
+/// A transaction that puts in a row with 5 and -1.
+pub fn row_of<L: Origin>(alloc: Global, seat: &mut Seat<L>, row: u64) -> Option<Transaction> {
     let Ok(mut transaction) = seat.begin(alloc) else {
         return None;
     };
+    if is_put(seat, &mut transaction, row) {
+        Some(transaction)
+    } else {
+        None
+    }
+}
+
+/// Whether the row is put in.
+fn is_put<L: Origin>(seat: &mut Seat<L>, transaction: &mut Transaction, row: u64) -> bool {
     let values = [Value::Int(5), Value::Int(-1)];
-    seat.insert(&mut transaction, 0, RowId(row), &values).ok()?;
-    let Ok(_) = line.commit(rt, seat, transaction, 0) else {
-        return None;
-    };
-    line.flush(rt, seat, usize::MAX).ok()?;
-    Some(())
+    seat.insert(transaction, 0, RowId(row), &values).is_ok()
 }
 
 /// Takes a step.
@@ -130,12 +143,31 @@ fn pushes_on<L: Origin, R: Wait>(
 ) -> Option<bool>
     requires { 0 < L.workers }
 {
-    let mut seat = line.seat(rt)?;
-    let of_node = line.seat(rt)?;
+    let Some(mut seat) = line.seat(rt) else {
+        return None;
+    };
+    let Some(of_node) = line.seat(rt) else {
+        return None;
+    };
+    pushes_beside(rt, alloc, line, &mut seat, of_node)
+}
+
+/// The same of a node at a seat of its own.
+fn pushes_beside<L: Origin, R: Wait>(
+    rt: &R,
+    alloc: Global,
+    line: &Line<L, MemJournal, &R>,
+    seat: &mut Seat<L>,
+    of_node: Seat<L>,
+) -> Option<bool>
+    requires { 0 < L.workers }
+{
     let Ok(mut node) = PrimaryNode::new(alloc, of_node, MemPort::new(alloc), 2) else {
         return None;
     };
-    pushes_these(rt, alloc, line, &mut seat, &mut node)
+    let pushed = pushes_these(rt, alloc, line, seat, &mut node);
+    drop(node);
+    pushed
 }
 
 /// Whether a node pushes so, on a line of this primary.
@@ -154,19 +186,28 @@ fn pushes_so<L: Origin, R: Wait>(
     requires seats { start.seats ≡ L.seats }
 {
     core.keeps_legal();
-    let Ok(line) = Line::<L, MemJournal, &R>::new(alloc, rt, core, start) else {
+    let Some(line) = some(Line::<L, MemJournal, &R>::new(alloc, rt, core, start)) else {
         return None;
     };
-    pushes_on(rt, alloc, &line)
+    let pushed = pushes_on(rt, alloc, &line);
+    drop(line);
+    pushed
+}
+
+/// The same on a new line of two seats.
+fn pushes_on_new<R: Wait>(rt: &R, alloc: Global, core: PrimaryCore<MemJournal>) -> Option<bool>
+    requires { core.primary.workers ≡ 2 }
+{
+    match Start::new(2) {
+        Ok(start) => pushes_so::<Brand, R>(rt, alloc, core, start),
+        Err(_) => None,
+    }
 }
 
 #[test]
 fn frames_below_a_base_are_skipped(rt: HostRuntime) -> Result<(), Fail> {
     let core = core_of(rt.alloc())?;
-    let start = Start::new(2).ok().ok_or("start")?;
-    assert_eq!(rt;
-        pushes_so::<Brand, _>(&rt, rt.alloc(), core, start),
-        Some(true)
-    );
+    let pushed = pushes_on_new(&rt, rt.alloc(), core);
+    assert_eq!(rt; pushed, Some(true));
     Ok(())
 }

@@ -30,12 +30,20 @@ struct Line {
 impl Line {
     fn new<N: Net>(net: &N, alloc: Global) -> io::Result<Line> {
         let any = SocketAddr::from((Ipv4Addr::LOCALHOST, 0));
-        let mut port = UdpPort::bind(net, alloc, any, None, Vec::new(alloc))?;
+        let stranger = UdpSocket::bind(net, any)?;
+        let port = UdpPort::bind(net, alloc, any, None, Vec::new(alloc))?;
+        Line::at(alloc, port, stranger)
+    }
+
+    /// Of this port and this socket.
+    fn at(alloc: Global, mut port: UdpPort, stranger: UdpSocket) -> io::Result<Line> {
+        let here = port.local_addr()?;
+        let drain = port.drain(alloc)?;
         Ok(Line {
-            drain: port.drain(alloc)?,
-            here: port.local_addr()?,
             port,
-            stranger: UdpSocket::bind(net, any)?,
+            drain,
+            stranger,
+            here,
             sent: 0,
             received: 0,
         })
@@ -83,6 +91,11 @@ impl Line {
 /// How many of ten rows the drain takes, and how many come in their order with half a row behind them.
 fn rows_at_work<N: Net>(net: &N, alloc: Global) -> io::Result<(usize, u32)> {
     let mut line = Line::new(net, alloc)?;
+    rows_over(&mut line)
+}
+
+/// The same over this line.
+fn rows_over(line: &mut Line) -> io::Result<(usize, u32)> {
     let mut taken: usize = 0;
     for _ in 0..10 {
         line.send(ROW)?;
@@ -103,6 +116,11 @@ fn what_comes_at_work_is_received_in_its_order(rt: HostRuntime) -> Result<(), Fa
 /// and at those after that.
 fn looks_beside_receives<N: Net>(net: &N, alloc: Global) -> io::Result<[usize; 3]> {
     let mut line = Line::new(net, alloc)?;
+    looks_over(&mut line)
+}
+
+/// The same over this line.
+fn looks_over(line: &mut Line) -> io::Result<[usize; 3]> {
     line.send(5)?;
     let first = line.look(5);
     line.receive();
@@ -124,6 +142,11 @@ fn a_drain_takes_nothing_beside_receives(rt: HostRuntime) -> Result<(), Fail> {
 /// How many the drain takes of more than it holds, and how many come.
 fn more_than_it_holds<N: Net>(net: &N, alloc: Global) -> io::Result<(usize, u32)> {
     let mut line = Line::new(net, alloc)?;
+    more_than_held(&mut line)
+}
+
+/// The same over this line.
+fn more_than_held(line: &mut Line) -> io::Result<(usize, u32)> {
     let mut taken: usize = 0;
     for _ in 0..164 {
         line.send(ROW)?;
@@ -146,6 +169,11 @@ fn a_full_drain_takes_no_more(rt: HostRuntime) -> Result<(), Fail> {
 /// How many come where the drain has taken a row, and another has its place before the second one.
 fn two_drains<N: Net>(net: &N, alloc: Global) -> io::Result<u32> {
     let mut line = Line::new(net, alloc)?;
+    drained_twice(alloc, &mut line)
+}
+
+/// The same over this line.
+fn drained_twice(alloc: Global, line: &mut Line) -> io::Result<u32> {
     line.send(ROW)?;
     line.look(ROW as usize);
     line.receive();

@@ -3,12 +3,13 @@
 
 ghost use Rattle.std.specs.Prelude.{◌≡◌, ◌<◌};
 
-use crate::cores::{core_of, replica_of};
+use crate::bases::inserts;
+use crate::cores::{core_of, replica_of, some};
 use crate::nodes::{COUNT_AND_SUM, REPORT, put_one, report_of};
 use journal::MemJournal;
 use primary::PrimaryCore;
 use queue::QueryQueue;
-use rows::{ByteList, RowId, Value};
+use rows::ByteList;
 use scenarios_common::worker_datagrams::{ASK, FRAME, HEAD_OF_TWO, WANT};
 use shared::{Line, Origin, Seat, Start};
 use sockets::{MemPort, Port, PrimaryNode, ReplicaNode, ServeFault, Traffic, serve_primary};
@@ -43,8 +44,10 @@ pub fn deliver(alloc: Global, port: &mut MemPort, datagram: &[u8]) -> Option<()>
     if datagram.len() > 1201 {
         return None;
     }
-    let bytes = ByteList::from_vec(Vec::from_slice(alloc, datagram).ok()?);
-    port.deliver(bytes).ok()
+    let Ok(bytes) = Vec::from_slice(alloc, datagram) else {
+        return None;
+    };
+    some(port.deliver(ByteList::from_vec(bytes)))
 }
 
 /// What one turn of a node came to.
@@ -105,9 +108,21 @@ fn failures_over<R: Threads + Wait + Sync>(
     alloc: Global,
     node: &mut ReplicaNode<PlainStore, MemPort>,
 ) -> Option<usize> {
-    let queue = QueryQueue::new(alloc, 1).ok()?;
-    put_one(rt, alloc, &queue, &COUNT_AND_SUM)?;
-    failures_of(rt, alloc, node, &queue)
+    let Ok(queue) = QueryQueue::new(alloc, 1) else {
+        return None;
+    };
+    failures_with(rt, alloc, node, &queue)
+}
+
+/// The same with this queue, which is empty.
+fn failures_with<R: Threads + Wait + Sync>(
+    rt: &R,
+    alloc: Global,
+    node: &mut ReplicaNode<PlainStore, MemPort>,
+    queue: &QueryQueue,
+) -> Option<usize> {
+    put_one(rt, alloc, queue, &COUNT_AND_SUM)?;
+    failures_of(rt, alloc, node, queue)
 }
 
 /// How a replica ends whose port fails at the call that comes after so many.
@@ -116,10 +131,22 @@ fn ending_of_replica<R: Threads + Wait + Sync>(
     alloc: Global,
     calls: u64,
 ) -> Option<Ending> {
+    let core = replica_of(alloc, 0)?;
     let mut port = MemPort::new(alloc);
     port.fail_after(calls);
-    let mut node = ReplicaNode::new(alloc, replica_of(alloc, 0)?, port);
-    let failed = failures_over(rt, alloc, &mut node)?;
+    let mut node = ReplicaNode::new(alloc, core, port);
+    let ending = ending_of_node(rt, alloc, &mut node);
+    drop(node);
+    ending
+}
+
+/// The same of its node.
+fn ending_of_node<R: Threads + Wait + Sync>(
+    rt: &R,
+    alloc: Global,
+    node: &mut ReplicaNode<PlainStore, MemPort>,
+) -> Option<Ending> {
+    let failed = failures_over(rt, alloc, node)?;
     let ending = (failed, node.port().sent().len(), node.port().faults());
     if node.traffic() != traffic_of(ending, 1) || node.expected() != Some(1) {
         return None;
@@ -147,27 +174,6 @@ fn a_replica_goes_on_after_a_fault_of_its_port(rt: HostRuntime) -> Result<(), Fa
         calls = calls.saturating_add(1);
     }
     Ok(())
-}
-
-/// Makes row 7 with 5 and -1 durable, by worker 0.
-fn insert_seven<L: Origin, R: Wait>(
-    rt: &R,
-    alloc: Global,
-    line: &Line<L, MemJournal, &R>,
-    seat: &mut Seat<L>,
-) -> Option<()>
-    requires { 1 < L.workers }
-{
-    let Ok(mut transaction) = seat.begin(alloc) else {
-        return None;
-    };
-    let values = [Value::Int(5), Value::Int(-1)];
-    seat.insert(&mut transaction, 0, RowId(7), &values).ok()?;
-    let Ok(_) = line.commit(rt, seat, transaction, 0) else {
-        return None;
-    };
-    line.flush(rt, seat, usize::MAX).ok()?;
-    Some(())
 }
 
 /// Whether a datagram that was sent is this one: P, the frame, which is pushed; H, the Head for replica 0;
@@ -248,21 +254,48 @@ fn sends_as<L: Origin, R: Wait>(
     calls: u64,
     sending: Sending,
 ) -> Option<(bool, Seat<L>)> {
-    let mut port = MemPort::new(alloc);
-    port.fail_after(calls);
-    deliver(alloc, &mut port, &ASK)?;
-    deliver(alloc, &mut port, &WANT)?;
+    let port = port_of_both(alloc, calls)?;
     let Ok(mut node) = PrimaryNode::new(alloc, seat, port, 2) else {
         return None;
     };
-    let failed = failures_of_primary(rt, line, &mut node)?;
+    let is_so = node_sends_as(rt, line, &mut node, calls, sending);
+    Some((is_so, node.into_seat()))
+}
+
+/// A port that fails at the call that comes after so many, and to which an Ask and a Want come.
+fn port_of_both(alloc: Global, calls: u64) -> Option<MemPort> {
+    let mut port = MemPort::new(alloc);
+    port.fail_after(calls);
+    if has_delivered_both(alloc, &mut port) {
+        Some(port)
+    } else {
+        None
+    }
+}
+
+/// Puts an Ask and a Want into a port. Whether there is memory for them.
+fn has_delivered_both(alloc: Global, port: &mut MemPort) -> bool {
+    deliver(alloc, port, &ASK).is_some() && deliver(alloc, port, &WANT).is_some()
+}
+
+/// Whether the node of a primary with one frame sends what it is to send.
+fn node_sends_as<L: Origin, R: Wait>(
+    rt: &R,
+    line: &Line<L, MemJournal, &R>,
+    node: &mut PrimaryNode<L, MemPort>,
+    calls: u64,
+    sending: Sending,
+) -> bool {
+    let Some(failed) = failures_of_primary(rt, line, node) else {
+        return false;
+    };
     let faults = if calls < 6 { 1 } else { 0 };
-    let is_told = tells_of_asked(&mut node);
+    let is_told = tells_of_asked(node);
     let port = node.port();
     let ending = (failed, port.sent().len(), port.faults());
     let is_counted = node.traffic() == traffic_of(ending, 0) && port.faults() == faults;
     let is_so = are_named(port.sent(), sending.0) && failed == sending.1;
-    Some((is_so && is_counted && is_told, node.into_seat()))
+    is_so && is_counted && is_told
 }
 
 /// Whether a primary with one frame sends what it is to send, whichever call of its port fails.
@@ -299,24 +332,46 @@ fn sends_all<L: Origin, R: Wait>(
     requires parts { start.blank.parts ≡ L.parts }
     requires seats { start.seats ≡ L.seats }
 {
-    if core.workers() < 2 {
-        return None;
-    }
-    let Ok(line) = Line::<L, MemJournal, &R>::new(alloc, rt, core, start) else {
+    core.keeps_legal();
+    let Some(line) = some(Line::<L, MemJournal, &R>::new(alloc, rt, core, start)) else {
         return None;
     };
-    let mut seat = line.seat(rt)?;
-    insert_seven(rt, alloc, &line, &mut seat)?;
-    sends_each(rt, alloc, &line, seat)
+    let sent = sends_on(rt, alloc, &line);
+    drop(line);
+    sent
+}
+
+/// The same on this line.
+fn sends_on<L: Origin, R: Wait>(
+    rt: &R,
+    alloc: Global,
+    line: &Line<L, MemJournal, &R>,
+) -> Option<bool>
+    requires { 0 < L.workers }
+{
+    let Some(mut seat) = line.seat(rt) else {
+        return None;
+    };
+    if inserts(rt, alloc, line, &mut seat, 7).is_none() {
+        return None;
+    }
+    sends_each(rt, alloc, line, seat)
+}
+
+/// The same on a new line of one seat.
+fn sends_on_new<R: Wait>(rt: &R, alloc: Global, core: PrimaryCore<MemJournal>) -> Option<bool>
+    requires { core.primary.workers ≡ 2 }
+{
+    match Start::new(1) {
+        Ok(start) => sends_all::<Brand, R>(rt, alloc, core, start),
+        Err(_) => None,
+    }
 }
 
 #[test]
 fn a_primary_goes_on_after_a_fault_of_its_port(rt: HostRuntime) -> Result<(), Fail> {
     let core = core_of(rt.alloc())?;
-    let start = Start::new(1).ok().ok_or("start")?;
-    assert_eq!(rt;
-        sends_all::<Brand, _>(&rt, rt.alloc(), core, start),
-        Some(true)
-    );
+    let sent = sends_on_new(&rt, rt.alloc(), core);
+    assert_eq!(rt; sent, Some(true));
     Ok(())
 }

@@ -1,6 +1,7 @@
 //! What a replica's node does: it is given a query, and serves some turns.
 
-use queries::{Aggregate, Column};
+use crate::cores::some;
+use queries::{Aggregate, Column, Plan};
 use queue::QueryQueue;
 use rows::ByteList;
 use scenarios_plans_common::wishes::{COUNT, Wish, plan_of};
@@ -22,8 +23,18 @@ pub const REPORT: &[u8] = b"version 1 queries 1\nquery 0 rows 1\n1 -1\n";
 
 /// Puts one query. `None` where the queue is full, and out of memory.
 pub fn put_one<R: Wait>(rt: &R, alloc: Global, queue: &QueryQueue, wish: &Wish<'_>) -> Option<()> {
-    let mut pass = queue.pass()?;
-    queue.put(rt, &mut pass, plan_of(alloc, wish).ok()?).ok()
+    let Ok(plan) = plan_of(alloc, wish) else {
+        return None;
+    };
+    put_plan(rt, queue, plan)
+}
+
+/// Puts this query.
+fn put_plan<R: Wait>(rt: &R, queue: &QueryQueue, plan: Plan) -> Option<()> {
+    let Some(mut pass) = queue.pass() else {
+        return None;
+    };
+    some(queue.put(rt, &mut pass, plan))
 }
 
 /// Serves as a replica for so many turns: the report, if there is one, or why the node failed.

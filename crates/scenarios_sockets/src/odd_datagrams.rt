@@ -1,6 +1,6 @@
 //! Datagrams that no node sends, and addresses that nothing can be sent to.
 
-use crate::cores::replica_of;
+use crate::cores::{replica_of, some};
 use crate::nodes::{COUNT_AND_SUM, REPORT, put_one, report_of};
 use mio::net::UdpSocket;
 use queue::QueryQueue;
@@ -23,15 +23,15 @@ fn any() -> SocketAddr {
     SocketAddr::from((Ipv4Addr::LOCALHOST, 0))
 }
 
-/// Sends to an address what no node sends: nothing, a good frame with a byte behind it that a buffer of
-/// 1,200 bytes would cut away, the greatest datagram, and many short ones.
+/// Sends to an address what no node sends: the greatest datagram, nothing, a good frame with a byte behind it
+/// that a buffer of 1,200 bytes would cut away, and many short ones.
 fn sends_odd_ones(alloc: Global, socket: &UdpSocket, to: SocketAddr) -> io::Result<()> {
+    let greatest = Vec::from_elem(alloc, 0u8, GREATEST)?;
+    socket.send_to(greatest.as_slice(), to)?;
     let mut long = [0u8; 1201];
     long[..54].copy_from_slice(&FRAME);
-    let greatest = Vec::from_elem(alloc, 0u8, GREATEST)?;
     socket.send_to(&[], to)?;
     socket.send_to(&long, to)?;
-    socket.send_to(greatest.as_slice(), to)?;
     for byte in 0..100u8 {
         socket.send_to(&[0x42, 0x44, 0x03, byte], to)?;
     }
@@ -61,13 +61,27 @@ fn lengths_at<R: Threads + Wait + Sync>(
     stranger: &UdpSocket,
     here: SocketAddr,
 ) -> Option<(usize, usize)> {
-    let queue = QueryQueue::new(alloc, 1).ok()?;
-    put_one(rt, alloc, &queue, &COUNT_AND_SUM)?;
-    sends_odd_ones(alloc, stranger, here).ok()?;
-    let before = length_of_report(rt, alloc, node, &queue)?;
-    stranger.send_to(&FRAME, here).ok()?;
-    stranger.send_to(&HEAD_OF_TWO, here).ok()?;
-    let after = length_of_report(rt, alloc, node, &queue)?;
+    let Ok(queue) = QueryQueue::new(alloc, 1) else {
+        return None;
+    };
+    lengths_with(rt, alloc, node, &queue, stranger, here)
+}
+
+/// The same with this queue, which is empty.
+fn lengths_with<R: Threads + Wait + Sync>(
+    rt: &R,
+    alloc: Global,
+    node: &mut ReplicaNode<PlainStore, UdpPort>,
+    queue: &QueryQueue,
+    stranger: &UdpSocket,
+    here: SocketAddr,
+) -> Option<(usize, usize)> {
+    put_one(rt, alloc, queue, &COUNT_AND_SUM)?;
+    some(sends_odd_ones(alloc, stranger, here))?;
+    let before = length_of_report(rt, alloc, node, queue)?;
+    some(stranger.send_to(&FRAME, here))?;
+    some(stranger.send_to(&HEAD_OF_TWO, here))?;
+    let after = length_of_report(rt, alloc, node, queue)?;
     if node.core().version() == 1 {
         Some((before, after))
     } else {
@@ -80,11 +94,37 @@ fn lengths_of_reports<N: Threads + Net + Wait + Sync>(
     rt: &N,
     alloc: Global,
 ) -> Option<(usize, usize)> {
-    let port = UdpPort::bind(rt, alloc, any(), None, Vec::new(alloc)).ok()?;
-    let here = port.local_addr().ok()?;
-    let stranger = UdpSocket::bind(rt, any()).ok()?;
-    let mut node = ReplicaNode::new(alloc, replica_of(alloc, 0)?, port);
-    let lengths = lengths_at(rt, alloc, &mut node, &stranger, here)?;
+    let Ok(stranger) = UdpSocket::bind(rt, any()) else {
+        return None;
+    };
+    lengths_from(rt, alloc, &stranger)
+}
+
+/// The same where this socket is the other address.
+fn lengths_from<N: Threads + Net + Wait + Sync>(
+    rt: &N,
+    alloc: Global,
+    stranger: &UdpSocket,
+) -> Option<(usize, usize)> {
+    let core = replica_of(alloc, 0)?;
+    let Ok(port) = UdpPort::bind(rt, alloc, any(), None, Vec::new(alloc)) else {
+        return None;
+    };
+    let mut node = ReplicaNode::new(alloc, core, port);
+    let lengths = lengths_of_node(rt, alloc, &mut node, stranger);
+    drop(node);
+    lengths
+}
+
+/// The same of this node.
+fn lengths_of_node<R: Threads + Wait + Sync>(
+    rt: &R,
+    alloc: Global,
+    node: &mut ReplicaNode<PlainStore, UdpPort>,
+    stranger: &UdpSocket,
+) -> Option<(usize, usize)> {
+    let here = some(node.port().local_addr())?;
+    let lengths = lengths_at(rt, alloc, node, stranger, here)?;
     if node.port().faults() == 0 {
         Some(lengths)
     } else {
@@ -119,11 +159,26 @@ fn receives_ask(socket: &UdpSocket) -> bool {
 /// Whether a datagram for all replicas goes to the second of two addresses where the first cannot be sent
 /// to, which is a counted fault with its reason.
 fn goes_to_the_second<N: Net>(net: &N, alloc: Global) -> Option<bool> {
-    let socket = UdpSocket::bind(net, any()).ok()?;
-    let mut addresses = Vec::new(alloc);
-    addresses.push(any()).ok()?;
-    addresses.push(socket.local_addr().ok()?).ok()?;
-    let mut port = UdpPort::bind(net, alloc, any(), None, addresses).ok()?;
+    let Ok(socket) = UdpSocket::bind(net, any()) else {
+        return None;
+    };
+    goes_to(net, alloc, &socket)
+}
+
+/// The same where the second address is that of this socket.
+fn goes_to<N: Net>(net: &N, alloc: Global, socket: &UdpSocket) -> Option<bool> {
+    let second = some(socket.local_addr())?;
+    let Ok(addresses) = Vec::from_slice(alloc, &[any(), second]) else {
+        return None;
+    };
+    let Ok(mut port) = UdpPort::bind(net, alloc, any(), None, addresses) else {
+        return None;
+    };
+    Some(is_sent_from(&mut port) && receives_ask(socket))
+}
+
+/// Whether an Ask for all replicas is a fault for the first address, and for no other.
+fn is_sent_from(port: &mut UdpPort) -> bool {
     let ask = Datagram::Ask {
         replica: 0,
         boot: 1,
@@ -133,9 +188,11 @@ fn goes_to_the_second<N: Net>(net: &N, alloc: Global) -> Option<bool> {
         to: To::Replicas,
         packet: Packet::of(&ask),
     });
-    let reason = port.last_fault()?.raw_os_error();
-    let is_counted = port.faults() == 1 && reason == Some(NO_SUCH_PORT);
-    Some(ended == Err(PortFault::Send) && is_counted && receives_ask(&socket))
+    let Some(fault) = port.last_fault() else {
+        return false;
+    };
+    let reason = fault.raw_os_error();
+    ended == Err(PortFault::Send) && port.faults() == 1 && reason == Some(NO_SUCH_PORT)
 }
 
 /// An address that fails keeps a datagram from no other.
@@ -145,13 +202,20 @@ fn one_address_keeps_a_datagram_from_no_other(rt: HostRuntime) -> Result<(), Fai
     Ok(())
 }
 
-/// Whether a port to which nothing was sent says so, and has no fault.
+/// Whether a new port to which nothing was sent says so, and has no fault.
 fn is_silent<N: Net>(net: &N, alloc: Global) -> Option<bool> {
-    let mut port = UdpPort::bind(net, alloc, any(), None, Vec::new(alloc)).ok()?;
+    let Ok(mut port) = UdpPort::bind(net, alloc, any(), None, Vec::new(alloc)) else {
+        return None;
+    };
+    Some(says_nothing(&mut port))
+}
+
+/// Whether this port says that nothing came, and has no fault.
+fn says_nothing(port: &mut UdpPort) -> bool {
     let mut buffer = [0u8; 1201];
     let taken = port.recv(&mut buffer, Patience::Takes);
     let waited = port.recv(&mut buffer, Patience::Waits);
-    Some(taken == Ok(None) && waited == Ok(None) && port.last_fault().is_none())
+    taken == Ok(None) && waited == Ok(None) && port.last_fault().is_none()
 }
 
 #[test]

@@ -1,6 +1,6 @@
 //! Single turns of nodes, and what they count.
 
-use crate::cores::replica_of;
+use crate::cores::{replica_of, some};
 use crate::failing_ports::deliver;
 use crate::nodes::{COUNT_AND_SUM, REPORT};
 use rows::ByteList;
@@ -34,24 +34,49 @@ fn is_report(report: &ByteList) -> u8 {
 
 /// Offers a node the query.
 fn offer(alloc: Global, node: &mut ReplicaNode<PlainStore, MemPort>) -> Option<()> {
-    let mut plans = Vec::new(alloc);
-    plans.push(plan_of(alloc, &COUNT_AND_SUM).ok()?).ok()?;
-    node.offer_all(plans).ok()
+    let Ok(plan) = plan_of(alloc, &COUNT_AND_SUM) else {
+        return None;
+    };
+    let Some(plans) = list_of(alloc, plan) else {
+        return None;
+    };
+    some(node.offer_all(plans))
+}
+
+/// A list of one item.
+fn list_of<T: Drop>(alloc: Global, item: T) -> Option<Vec<T>> {
+    let mut items = Vec::new(alloc);
+    match items.push(item) {
+        Ok(()) => Some(items),
+        Err(_) => None,
+    }
 }
 
 /// What four turns of a new node came to, and what it counts: it has no query, and then one; an Ask comes,
 /// and a frame twice; then the Head of its Ask.
 fn four_turns<R: Threads + Sync>(rt: &R, alloc: Global) -> Option<([u8; 4], Traffic, Option<u64>)> {
-    let mut node = ReplicaNode::new(alloc, replica_of(alloc, 0)?, MemPort::new(alloc));
-    let first = name_of(rt, &mut node);
+    let core = replica_of(alloc, 0)?;
+    let mut node = ReplicaNode::new(alloc, core, MemPort::new(alloc));
+    let turned = four_turns_of(rt, alloc, &mut node);
+    drop(node);
+    turned
+}
+
+/// The same of this node.
+fn four_turns_of<R: Threads + Sync>(
+    rt: &R,
+    alloc: Global,
+    node: &mut ReplicaNode<PlainStore, MemPort>,
+) -> Option<([u8; 4], Traffic, Option<u64>)> {
+    let first = name_of(rt, node);
     deliver(alloc, node.port_mut(), &ASK)?;
     deliver(alloc, node.port_mut(), &FRAME)?;
     deliver(alloc, node.port_mut(), &FRAME)?;
-    let second = name_of(rt, &mut node);
-    offer(alloc, &mut node)?;
-    let third = name_of(rt, &mut node);
+    let second = name_of(rt, node);
+    offer(alloc, node)?;
+    let third = name_of(rt, node);
     deliver(alloc, node.port_mut(), &HEAD_OF_TWO)?;
-    let fourth = name_of(rt, &mut node);
+    let fourth = name_of(rt, node);
     Some((
         [first, second, third, fourth],
         node.traffic(),
@@ -127,15 +152,28 @@ fn sent_for_23<R: Threads + Sync>(
     alloc: Global,
     has_sixth: bool,
 ) -> Option<Vec<(u8, u8, u8)>> {
-    let mut node = ReplicaNode::new(alloc, replica_of(alloc, 0)?, MemPort::new(alloc));
-    offer(alloc, &mut node)?;
-    let first = name_of(rt, &mut node);
+    let core = replica_of(alloc, 0)?;
+    let mut node = ReplicaNode::new(alloc, core, MemPort::new(alloc));
+    let sent = sent_by(rt, alloc, &mut node, has_sixth);
+    drop(node);
+    sent
+}
+
+/// The same of this node.
+fn sent_by<R: Threads + Sync>(
+    rt: &R,
+    alloc: Global,
+    node: &mut ReplicaNode<PlainStore, MemPort>,
+    has_sixth: bool,
+) -> Option<Vec<(u8, u8, u8)>> {
+    offer(alloc, node)?;
+    let first = name_of(rt, node);
     if has_sixth {
         deliver(alloc, node.port_mut(), &sixth_frame())?;
     }
     deliver(alloc, node.port_mut(), &HEAD_OF_23)?;
-    let second = name_of(rt, &mut node);
-    let third = name_of(rt, &mut node);
+    let second = name_of(rt, node);
+    let third = name_of(rt, node);
     if [first, second, third] != *b"WWW" {
         return None;
     }

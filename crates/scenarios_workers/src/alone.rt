@@ -22,7 +22,9 @@ pub fn answered_alone<R: Threads + Wait + Sync>(
 
 /// What the jobs were answered, if no fault ended a worker.
 pub fn answers_of<J: JournalStore + Drop>(outcome: Outcome<J>) -> Result<Vec<JobAnswer>, Fail> {
-    let Outcome { result, .. } = outcome;
+    let Outcome { core, result, done } = outcome;
+    drop(core);
+    drop(done);
     match result {
         Ok(answers) => Ok(answers),
         Err(_) => Err("a fault".into()),

@@ -2,7 +2,7 @@
 
 ghost use Rattle.std.specs.Prelude.{◌≡◌};
 
-use crate::cores::core_on;
+use crate::cores::{core_on, some};
 use crate::gates::{Counter, Meeting, Turnstile};
 use crate::listed_jobs::{Wish, insertions, jobs_of};
 use journal::{JournalStore, MemJournal};
@@ -62,10 +62,12 @@ fn ran<
     requires seats { start.seats ≡ L.seats }
 {
     let workers = core.workers();
-    let Ok(line) = Line::<L, J, &R>::new(alloc, rt, core, start) else {
+    let Some(line) = some(Line::<L, J, &R>::new(alloc, rt, core, start)) else {
         return None;
     };
-    run_checked(rt, alloc, &line, workers, jobs, gate)
+    let answers = run_checked(rt, alloc, &line, workers, jobs, gate);
+    drop(line);
+    answers
 }
 
 /// What the jobs are answered on a new line with so many seats.
@@ -88,14 +90,25 @@ fn answered<R: Threads + Wait + Sync, G: Gate + Sync>(
 
 /// Whether each of two workers' ten jobs has a ticket while one worker is held, and no turns ran out.
 fn is_passed<R: Threads + Wait + Sync>(rt: &R, alloc: Global, held: u8) -> Result<bool, Fail> {
-    let core = core_on(alloc, MemJournal::new(alloc))?;
     let jobs = insertions(alloc, 10)?;
     let gate = Turnstile::new(held);
-    let answers = answered(rt, alloc, core, 2, &jobs, &gate);
-    Ok(match answers {
-        Some(Ok(answers)) => are_tickets(&answers, 20) && gate.was_passed(20),
-        _ => false,
-    })
+    let are_passed = are_tickets(&answered_on_new(rt, alloc, 2, &jobs, &gate)?, 20);
+    Ok(are_passed && gate.was_passed(20))
+}
+
+/// What the jobs are answered on a new line with so many seats, if no fault ended them.
+fn answered_on_new<R: Threads + Wait + Sync, G: Gate + Sync>(
+    rt: &R,
+    alloc: Global,
+    seats: u8,
+    jobs: &[Job],
+    gate: &G,
+) -> Result<Vec<JobAnswer>, Fail> {
+    let core = core_on(alloc, MemJournal::new(alloc))?;
+    match answered(rt, alloc, core, seats, jobs, gate) {
+        Some(Ok(answers)) => Ok(answers),
+        _ => Err("not answered".into()),
+    }
 }
 
 /// Whether there are so many answers, and each is a ticket.
@@ -143,13 +156,9 @@ const TOLD: [JobAnswer; 6] = [
 
 /// Whether the story is answered as it is told.
 fn is_told<R: Threads + Wait + Sync>(rt: &R, alloc: Global) -> Result<bool, Fail> {
-    let core = core_on(alloc, MemJournal::new(alloc))?;
     let jobs = jobs_of(alloc, &STORY)?;
-    let answers = answered(rt, alloc, core, 2, &jobs, &Meeting::new());
-    Ok(match answers {
-        Some(Ok(answers)) => answers.as_slice() == TOLD.as_slice(),
-        _ => false,
-    })
+    let answers = answered_on_new(rt, alloc, 2, &jobs, &Meeting::new())?;
+    Ok(answers.as_slice() == TOLD.as_slice())
 }
 
 #[test]
@@ -160,11 +169,22 @@ fn jobs_are_answered_in_their_order(rt: HostRuntime) -> Result<(), Fail> {
 
 /// Whether two workers on a line with one seat are refused before any commit.
 fn is_seatless<R: Threads + Wait + Sync>(rt: &R, alloc: Global) -> Result<bool, Fail> {
-    let core = core_on(alloc, MemJournal::new(alloc))?;
     let jobs = insertions(alloc, 1)?;
     let gate = Counter::new();
-    let answers = answered(rt, alloc, core, 1, &jobs, &gate);
-    Ok(matches!(answers, Some(Err(WorkersFault::NoSeat))) && gate.counts() == (0, 0))
+    let is_refused = is_refused(rt, alloc, &jobs, &gate)?;
+    Ok(is_refused && gate.counts() == (0, 0))
+}
+
+/// Whether the jobs are refused on a new line with one seat.
+fn is_refused<R: Threads + Wait + Sync, G: Gate + Sync>(
+    rt: &R,
+    alloc: Global,
+    jobs: &[Job],
+    gate: &G,
+) -> Result<bool, Fail> {
+    let core = core_on(alloc, MemJournal::new(alloc))?;
+    let answers = answered(rt, alloc, core, 1, jobs, gate);
+    Ok(matches!(answers, Some(Err(WorkersFault::NoSeat))))
 }
 
 #[test]

@@ -2,7 +2,7 @@
 
 ghost use Rattle.std.specs.Prelude.{◌≡◌};
 
-use crate::cores::WORKERS;
+use crate::cores::{WORKERS, is_done, some};
 use journal::{JournalStore, MemJournal};
 use primary::PrimaryCore;
 use scenarios_journal_common::failing_journal::FailingJournal;
@@ -39,11 +39,24 @@ fn crew_of<L: Origin, J: JournalStore, R: Wait + Drop, W: Wait>(
 ) -> Option<Vec<Worker<L>>> {
     let mut crew = Vec::new(alloc);
     for _ in 0..WORKERS {
-        if crew.push(Worker::new(alloc, line.seat(rt)?)).is_err() {
+        if !has_joined(rt, alloc, line, &mut crew) {
             return None;
         }
     }
     Some(crew)
+}
+
+/// Has one worker more join, at a seat of the line. Whether there was a seat, and memory.
+fn has_joined<L: Origin, J: JournalStore, R: Wait + Drop, W: Wait>(
+    rt: &W,
+    alloc: Global,
+    line: &Line<L, J, R>,
+    crew: &mut Vec<Worker<L>>,
+) -> bool {
+    match line.seat(rt) {
+        Some(seat) => is_done(crew.push(Worker::new(alloc, seat))),
+        None => false,
+    }
 }
 
 /// The seats of the workers, and how far each came.
@@ -51,18 +64,30 @@ fn parted<L: Origin>(alloc: Global, crew: Vec<Worker<L>>) -> Option<(Vec<Seat<L>
     let mut seats = Vec::new(alloc);
     let mut done = Vec::new(alloc);
     for worker in crew {
-        let Ok(answers) = worker.answers().to_vec(alloc) else {
-            return None;
-        };
-        let fault = worker.fault();
-        if done.push(Done { answers, fault }).is_err() {
-            return None;
-        }
-        if seats.push(worker.into_seat()).is_err() {
+        if !is_parted(alloc, worker, &mut seats, &mut done) {
             return None;
         }
     }
     Some((seats, done))
+}
+
+/// Notes how far a worker came, and leaves its seat. Whether there is memory for both.
+fn is_parted<L: Origin>(
+    alloc: Global,
+    worker: Worker<L>,
+    seats: &mut Vec<Seat<L>>,
+    done: &mut Vec<Done>,
+) -> bool {
+    is_noted(alloc, &worker, done) && is_done(seats.push(worker.into_seat()))
+}
+
+/// Notes how far a worker came. Whether there is memory for it.
+fn is_noted<L: Origin>(alloc: Global, worker: &Worker<L>, done: &mut Vec<Done>) -> bool {
+    let Ok(answers) = worker.answers().to_vec(alloc) else {
+        return false;
+    };
+    let fault = worker.fault();
+    done.push(Done { answers, fault }).is_ok()
 }
 
 /// What a crew answers to these jobs. `None` if a job is of no worker of it, or it is too large.
@@ -114,16 +139,74 @@ fn ended<
     requires whole { L.parts ≡ L.seats }
 {
     let workers = core.workers();
-    let Ok(line) = Line::<L, J, &R>::new(alloc, rt, core, start) else {
+    let Some(line) = some(Line::<L, J, &R>::new(alloc, rt, core, start)) else {
         return None;
     };
-    let mut crew = crew_of(rt, alloc, &line)?;
-    let result = ran(rt, alloc, &line, &mut crew, workers, jobs, gate)?;
-    let (seats, done) = parted(alloc, crew)?;
-    let Ok(core) = line.end(seats) else {
+    match ran_by_crew(rt, alloc, &line, workers, jobs, gate) {
+        Some(run) => left(line, run),
+        None => {
+            drop(line);
+            None
+        }
+    }
+}
+
+/// What a run was answered, the seats of its workers, and how far each came.
+type Run<L> = (
+    Result<Vec<JobAnswer>, WorkersFault>,
+    Vec<Seat<L>>,
+    Vec<Done>,
+);
+
+/// What two workers come to who do these jobs on this line.
+fn ran_by_crew<
+    L: Origin + Send + Sync,
+    J: JournalStore + Drop + Send,
+    R: Threads + Wait + Sync,
+    G: Gate + Sync,
+>(
+    rt: &R,
+    alloc: Global,
+    line: &Line<L, J, &R>,
+    workers: u8,
+    jobs: &[Job],
+    gate: &G,
+) -> Option<Run<L>>
+    requires { workers ≡ L.workers }
+{
+    let Some(mut crew) = crew_of(rt, alloc, line) else {
         return None;
     };
-    Some(Outcome { core, result, done })
+    match ran(rt, alloc, line, &mut crew, workers, jobs, gate) {
+        Some(result) => run_of(alloc, crew, result),
+        None => None,
+    }
+}
+
+/// What a crew came to whose run was answered so.
+fn run_of<L: Origin>(
+    alloc: Global,
+    crew: Vec<Worker<L>>,
+    answered: Result<Vec<JobAnswer>, WorkersFault>,
+) -> Option<Run<L>> {
+    match parted(alloc, crew) {
+        Some((seats, done)) => Some((answered, seats, done)),
+        None => None,
+    }
+}
+
+/// What is left of a line behind a run.
+fn left<L: Origin, J: JournalStore + Drop, R: Wait + Drop>(
+    line: Line<L, J, R>,
+    run: Run<L>,
+) -> Option<Outcome<J>>
+    requires { L.parts ≡ L.seats }
+{
+    let (result, seats, done) = run;
+    match some(line.end(seats)) {
+        Some(core) => Some(Outcome { core, result, done }),
+        None => None,
+    }
 }
 
 /// What is left once two workers have done these jobs on a new line of this primary, whose journal is in
@@ -134,10 +217,21 @@ pub fn ended_in_memory<R: Threads + Wait + Sync>(
     core: PrimaryCore<MemJournal>,
     jobs: &[Job],
 ) -> Result<Outcome<MemJournal>, Fail> {
-    let start = Start::new(WORKERS).ok().ok_or("start")?;
-    Ok(ended::<Brand, MemJournal, _, _>(rt, alloc, core, start, jobs, &OpenGate).ok_or(
-        "out of memory",
-    )?)
+    match Start::new(WORKERS) {
+        Ok(start) => {
+            let outcome = ended::<Brand, MemJournal, _, _>(rt, alloc, core, start, jobs, &OpenGate);
+            found(outcome, "out of memory")
+        }
+        Err(_) => Err("start".into()),
+    }
+}
+
+/// What was found, or why nothing was.
+fn found<T: Drop>(value: Option<T>, why: &'static str) -> Result<T, Fail> {
+    match value {
+        Some(value) => Ok(value),
+        None => Err(why.into()),
+    }
 }
 
 /// The same on a journal that fails at one of its calls.
@@ -147,8 +241,13 @@ pub fn ended_on_failing<R: Threads + Wait + Sync>(
     core: PrimaryCore<FailingJournal>,
     jobs: &[Job],
 ) -> Result<Outcome<FailingJournal>, Fail> {
-    let start = Start::new(WORKERS).ok().ok_or("start")?;
-    Ok(ended::<Brand, FailingJournal, _, _>(rt, alloc, core, start, jobs, &OpenGate).ok_or(
-        "ended",
-    )?)
+    match Start::new(WORKERS) {
+        Ok(start) => {
+            let outcome = ended::<Brand, FailingJournal, _, _>(
+                rt, alloc, core, start, jobs, &OpenGate,
+            );
+            found(outcome, "ended")
+        }
+        Err(_) => Err("start".into()),
+    }
 }

@@ -1,16 +1,18 @@
 //! A journal that fails while workers commit: it keeps what was answered by a ticket.
 
 use crate::cores::{WORKERS, core_on};
-use crate::crews::{Outcome, ended_on_failing};
+use crate::crews::{Done, Outcome, ended_on_failing};
 use crate::listed_jobs::{are_kept, guarded_insertions};
 use journal::{JournalStore, recover};
 use primary::PrimaryCore;
-use rows::Schema;
+use rows::{Commit, Schema};
 use scenarios_common::wanted::NUMBERS;
 use scenarios_journal_common::failing_journal::{Failing, FailingJournal, Failure};
 use sockets::{Job, WorkersFault};
 use std::alloc::Global;
+use std::sync::Wait;
 use std::test::Fail;
+use std::thread::Threads;
 
 /// An append in the middle, of which so many bytes are written.
 const IN_THE_MIDDLE: Failure = Failure {
@@ -42,27 +44,44 @@ fn are_recovered(
         return Ok(false);
     }
     let schema = Schema::new(alloc, &NUMBERS)?;
-    let recovered = recover(alloc, outcome.core.journal().content(), &schema, WORKERS)
-        .ok()
-        .ok_or("the journal is refused")?;
+    match recover(alloc, outcome.core.journal().content(), &schema, WORKERS) {
+        Ok(recovered) => Ok(have_commits(&outcome.done, jobs, &recovered.commits)),
+        Err(_) => Err("the journal is refused".into()),
+    }
+}
+
+/// Whether each worker found that the journal failed, and the commit of each of its tickets is among these.
+fn have_commits(done: &[Done], jobs: &[Job], commits: &[Commit]) -> bool {
     for worker in 0..WORKERS {
-        let Some(done) = outcome.done.get(worker as usize) else {
-            return Ok(false);
+        let Some(done) = done.get(worker as usize) else {
+            return false;
         };
         let is_so = done.fault == Some(WorkersFault::Journal)
-            && are_kept(jobs, worker, &done.answers, &recovered.commits);
+            && are_kept(jobs, worker, &done.answers, commits);
         if !is_so {
-            return Ok(false);
+            return false;
         }
     }
-    Ok(!recovered.commits.is_empty())
+    !commits.is_empty()
+}
+
+/// Whether these jobs are answered so on a new line.
+fn are_answered<R: Threads + Wait + Sync>(
+    rt: &R,
+    alloc: Global,
+    jobs: &[Job],
+) -> Result<bool, Fail> {
+    let core = failing_core(alloc)?;
+    let outcome = ended_on_failing(rt, alloc, core, jobs)?;
+    let are_recovered = are_recovered(alloc, &outcome, jobs);
+    drop(outcome);
+    are_recovered
 }
 
 #[test]
 fn a_journal_that_fails_keeps_what_was_answered(rt: HostRuntime) -> Result<(), Fail> {
-    let core = failing_core(rt.alloc())?;
     let jobs = guarded_insertions(rt.alloc(), EACH)?;
-    let outcome = ended_on_failing(&rt, rt.alloc(), core, &jobs)?;
-    assert!(rt; are_recovered(rt.alloc(), &outcome, &jobs)?);
+    let are_answered = are_answered(&rt, rt.alloc(), &jobs)?;
+    assert!(rt; are_answered);
     Ok(())
 }

@@ -2,7 +2,7 @@
 
 ghost use Rattle.std.specs.Prelude.{◌≡◌, ◌<◌};
 
-use crate::cores::core_on;
+use crate::cores::{core_on, some};
 use crate::listed_jobs::{Wish, job_of};
 use journal::MemJournal;
 use mvcc::TxFault;
@@ -54,8 +54,10 @@ fn takes_so<L: Origin, R: Wait>(
     if job.worker > 0 {
         return None;
     }
-    let answer = job_seat.takes(rt, alloc, line, 0, &job, &OpenGate).ok()?;
-    Some(answer == taking.1 && job_seat.answers().len() == taking.2)
+    match job_seat.takes(rt, alloc, line, 0, &job, &OpenGate) {
+        Ok(answer) => Some(answer == taking.1 && job_seat.answers().len() == taking.2),
+        Err(_) => None,
+    }
 }
 
 /// Whether these are the answers of all jobs.
@@ -87,8 +89,10 @@ fn takes_each<L: Origin, R: Wait>(
             return Some(false);
         }
     }
-    job_seat.settles(rt, line).ok()?;
-    Some(are_all(job_seat.answers()))
+    match job_seat.settles(rt, line) {
+        Ok(()) => Some(are_all(job_seat.answers())),
+        Err(_) => None,
+    }
 }
 
 /// Whether a seat of a line of this primary does.
@@ -107,20 +111,41 @@ fn takes_on_line<L: Origin, R: Wait>(
     requires seats { start.seats ≡ L.seats }
 {
     core.keeps_legal();
-    let Ok(line) = Line::<L, MemJournal, &R>::new(alloc, rt, core, start) else {
+    let Some(line) = some(Line::<L, MemJournal, &R>::new(alloc, rt, core, start)) else {
         return None;
     };
-    let mut job_seat = JobSeat::new(alloc, line.seat(rt)?);
-    takes_each(rt, alloc, &line, &mut job_seat)
+    let taken = takes_at_seat(rt, alloc, &line);
+    drop(line);
+    taken
+}
+
+/// Whether a seat of this line does.
+fn takes_at_seat<L: Origin, R: Wait>(
+    rt: &R,
+    alloc: Global,
+    line: &Line<L, MemJournal, &R>,
+) -> Option<bool>
+    requires { 0 < L.workers }
+{
+    let Some(seat) = line.seat(rt) else {
+        return None;
+    };
+    let mut job_seat = JobSeat::new(alloc, seat);
+    takes_each(rt, alloc, line, &mut job_seat)
+}
+
+/// Whether a seat of a new line does.
+fn takes_on_new<R: Wait>(rt: &R, alloc: Global, core: PrimaryCore<MemJournal>) -> Option<bool> {
+    match Start::new(1) {
+        Ok(start) => takes_on_line::<Brand, R>(rt, alloc, core, start),
+        Err(_) => None,
+    }
 }
 
 #[test]
 fn a_seat_answers_jobs_before_they_are_settled(rt: HostRuntime) -> Result<(), Fail> {
     let core = core_on(rt.alloc(), MemJournal::new(rt.alloc()))?;
-    let start = Start::new(1).ok().ok_or("start")?;
-    assert_eq!(rt;
-        takes_on_line::<Brand, _>(&rt, rt.alloc(), core, start),
-        Some(true)
-    );
+    let taken = takes_on_new(&rt, rt.alloc(), core);
+    assert_eq!(rt; taken, Some(true));
     Ok(())
 }

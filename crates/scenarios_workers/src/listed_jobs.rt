@@ -56,16 +56,33 @@ fn step_of(alloc: Global, wish: Wish) -> Result<Step, AllocError> {
 pub fn job_of(alloc: Global, worker: u8, wishes: &[Wish]) -> Result<Job, AllocError> {
     let mut steps = Vec::new(alloc);
     for wish in wishes {
-        steps.push(step_of(alloc, *wish)?)?;
+        push_step(alloc, &mut steps, *wish)?;
     }
     Ok(Job { worker, steps })
+}
+
+/// Puts a step behind others.
+fn push_step(alloc: Global, steps: &mut Vec<Step>, wish: Wish) -> Result<(), AllocError> {
+    let step = step_of(alloc, wish)?;
+    Ok(steps.push(step)?)
+}
+
+/// Puts a job behind others.
+pub fn push_job(
+    alloc: Global,
+    jobs: &mut Vec<Job>,
+    worker: u8,
+    wishes: &[Wish],
+) -> Result<(), AllocError> {
+    let job = job_of(alloc, worker, wishes)?;
+    Ok(jobs.push(job)?)
 }
 
 /// The jobs of a list, each a worker and its steps.
 pub fn jobs_of(alloc: Global, list: &[(u8, &[Wish])]) -> Result<Vec<Job>, AllocError> {
     let mut jobs = Vec::new(alloc);
     for (worker, wishes) in list {
-        jobs.push(job_of(alloc, *worker, wishes)?)?;
+        push_job(alloc, &mut jobs, *worker, wishes)?;
     }
     Ok(jobs)
 }
@@ -77,7 +94,7 @@ pub fn insertions(alloc: Global, each: u32) -> Result<Vec<Job>, AllocError> {
         for worker in 0..2u8 {
             let row = 2 * i as u64 + worker as u64;
             let wish = Wish::Insert(row, i as i64, worker as i64);
-            jobs.push(job_of(alloc, worker, &[wish])?)?;
+            push_job(alloc, &mut jobs, worker, &[wish])?;
         }
     }
     Ok(jobs)
@@ -93,7 +110,7 @@ pub fn guarded_insertions(alloc: Global, each: u32) -> Result<Vec<Job>, AllocErr
                 Wish::Insert(row, i as i64, worker as i64),
                 Wish::Expect(row, 0, i as i64),
             ];
-            jobs.push(job_of(alloc, worker, &wishes)?)?;
+            push_job(alloc, &mut jobs, worker, &wishes)?;
         }
     }
     Ok(jobs)

@@ -7,7 +7,9 @@ use crate::listed_jobs::{are_kept, insertions};
 use journal::MemJournal;
 use sockets::{Job, WorkersFault};
 use std::alloc::Global;
+use std::sync::Wait;
 use std::test::Fail;
+use std::thread::Threads;
 
 /// Jobs of each worker.
 const EACH: u32 = 3;
@@ -54,11 +56,19 @@ fn may_be(outcome: &Outcome<MemJournal>, jobs: &[Job]) -> bool {
     is_so && are_durable(outcome, jobs)
 }
 
+/// Whether what is left once two workers have done these jobs on a new line may be so.
+fn is_left<R: Threads + Wait + Sync>(rt: &R, alloc: Global, jobs: &[Job]) -> Result<bool, Fail> {
+    let core = core_on(alloc, MemJournal::new(alloc))?;
+    let outcome = ended_in_memory(rt, alloc, core, jobs)?;
+    let may_be = may_be(&outcome, jobs);
+    drop(outcome);
+    Ok(may_be)
+}
+
 #[test]
 fn a_worker_without_memory_leaves_the_jobs_of_the_other(rt: HostRuntime) -> Result<(), Fail> {
-    let core = core_on(rt.alloc(), MemJournal::new(rt.alloc()))?;
     let jobs = insertions(rt.alloc(), EACH)?;
-    let outcome = ended_in_memory(&rt, rt.alloc(), core, &jobs)?;
-    assert!(rt; may_be(&outcome, &jobs));
+    let is_left = is_left(&rt, rt.alloc(), &jobs)?;
+    assert!(rt; is_left);
     Ok(())
 }

@@ -3,7 +3,7 @@
 use crate::alone::{answered_alone, answers_of};
 use crate::cores::core_on;
 use crate::crews::ended_on_failing;
-use crate::listed_jobs::{Wish, job_of};
+use crate::listed_jobs::{Wish, push_job};
 use journal::JournalStore;
 use mvcc::TxFault;
 use primary::PrimaryCore;
@@ -32,7 +32,7 @@ fn rounds(alloc: Global) -> Result<Vec<Job>, AllocError> {
     let mut jobs = Vec::new(alloc);
     for _ in 0..ROUNDS {
         for wishes in &ROUND {
-            jobs.push(job_of(alloc, 0, wishes)?)?;
+            push_job(alloc, &mut jobs, 0, wishes)?;
         }
     }
     Ok(jobs)
@@ -60,13 +60,19 @@ fn is_round(answers: &[JobAnswer], round: u64) -> bool {
 fn are_in_order<R: Threads + Wait + Sync>(rt: &R, alloc: Global) -> Result<bool, Fail> {
     let jobs = rounds(alloc)?;
     let answers = answered_alone(rt, alloc, &jobs)?;
+    Ok(answers.len() == jobs.len() && are_rounds(&answers))
+}
+
+/// Whether each round is answered so.
+fn are_rounds(answers: &[JobAnswer]) -> bool {
     let mut round: u64 = 0;
-    let mut are = answers.len() == jobs.len();
-    for six in answers.as_slice().chunks(6) {
-        are = are && is_round(six, round);
+    for six in answers.chunks(6) {
+        if !is_round(six, round) {
+            return false;
+        }
         round = round.saturating_add(1);
     }
-    Ok(are)
+    true
 }
 
 #[test]
@@ -89,7 +95,7 @@ const INDEPENDENT: u64 = 2047;
 fn independent(alloc: Global) -> Result<Vec<Job>, AllocError> {
     let mut jobs = Vec::new(alloc);
     for row in 0..INDEPENDENT {
-        jobs.push(job_of(alloc, 0, &[Wish::Insert(row, 1, 2)])?)?;
+        push_job(alloc, &mut jobs, 0, &[Wish::Insert(row, 1, 2)])?;
     }
     Ok(jobs)
 }
@@ -105,11 +111,20 @@ fn core_for_two_flushes(alloc: Global) -> Result<PrimaryCore<FailingJournal>, Fa
 
 /// Whether they are answered with tickets from 1 on, on a journal that fails at the third flush.
 fn are_two_flushes<R: Threads + Wait + Sync>(rt: &R, alloc: Global) -> Result<bool, Fail> {
-    let core = core_for_two_flushes(alloc)?;
     let jobs = independent(alloc)?;
-    let outcome = ended_on_failing(rt, alloc, core, &jobs)?;
-    let answers = answers_of(outcome)?;
+    let answers = answered_in_two_flushes(rt, alloc, &jobs)?;
     Ok(are_tickets(&answers))
+}
+
+/// What these jobs are answered on such a journal.
+fn answered_in_two_flushes<R: Threads + Wait + Sync>(
+    rt: &R,
+    alloc: Global,
+    jobs: &[Job],
+) -> Result<Vec<JobAnswer>, Fail> {
+    let core = core_for_two_flushes(alloc)?;
+    let outcome = ended_on_failing(rt, alloc, core, jobs)?;
+    answers_of(outcome)
 }
 
 /// Whether these are the tickets from 1 on.

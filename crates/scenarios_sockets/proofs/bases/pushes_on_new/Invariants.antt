@@ -1,5 +1,5 @@
 -- The line: the name that was just made, and the primary that is handed in.
-use Rattle.scenarios_sockets.proofs.bases.frames_below_a_base_are_skipped.Given as goal
+use Rattle.scenarios_sockets.proofs.bases.pushes_on_new.Given as goal
 
 abbrev pub ghosts-pushes_so-L-Naming : goal.ghosts-pushes_so-L-Naming
 ghosts-pushes_so-L-Naming g a = record { book = a.start.opened.seen.book }

@@ -1,5 +1,5 @@
 -- The line: the name that was just made, and the primary that is handed in.
-use Rattle.scenarios_sockets.proofs.failing_ports.a_primary_goes_on_after_a_fault_of_its_port.Given as goal
+use Rattle.scenarios_sockets.proofs.failing_ports.sends_on_new.Given as goal
 
 abbrev pub ghosts-sends_all-L-Naming : goal.ghosts-sends_all-L-Naming
 ghosts-sends_all-L-Naming g a = record { book = a.start.opened.seen.book }

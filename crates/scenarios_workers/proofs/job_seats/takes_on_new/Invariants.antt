@@ -1,5 +1,5 @@
 -- The line: the name that was just made, and the primary that is handed in.
-use Rattle.scenarios_workers.proofs.job_seats.a_seat_answers_jobs_before_they_are_settled.Given as goal
+use Rattle.scenarios_workers.proofs.job_seats.takes_on_new.Given as goal
 
 abbrev pub ghosts-takes_on_line-L-Naming : goal.ghosts-takes_on_line-L-Naming
 ghosts-takes_on_line-L-Naming g a = record { book = a.start.opened.seen.book }
