@@ -2,6 +2,7 @@
 
 ghost use Rattle.std.specs.Prelude.{◌<◌, ◌≤◌};
 
+use crate::outcomes::{made, told};
 use journal::JournalStore;
 use mvcc::Transaction;
 use primary::{CommitFault, FlushFault, Ticket};
@@ -66,16 +67,44 @@ fn add<L: Origin>(
         .ok()
 }
 
-/// The sum of all rows, in a transaction that begins now.
-pub fn sum_of_all<L: Origin>(alloc: Global, seat: &mut Seat<L>) -> Option<i64> {
-    let Ok(transaction) = seat.begin(alloc) else {
-        return None;
-    };
+/// Whether an amount is moved from a row to another.
+fn moves<L: Origin>(
+    seat: &mut Seat<L>,
+    transaction: &mut Transaction,
+    from: u64,
+    to: u64,
+    amount: i64,
+) -> bool {
+    add(seat, transaction, from, amount.wrapping_neg()).is_some()
+        && add(seat, transaction, to, amount).is_some()
+}
+
+/// Whether all rows are put in, each with the numbers 0 and 0.
+fn puts_in_all<L: Origin>(seat: &mut Seat<L>, transaction: &mut Transaction) -> bool {
+    for row in 0..ROWS {
+        let values = [Value::Int(0), Value::Int(0)];
+        if seat.insert(transaction, 0, RowId(row), &values).is_err() {
+            return false;
+        }
+    }
+    true
+}
+
+/// The sum of all rows, as a transaction sees them.
+fn sum_seen<L: Origin>(seat: &mut Seat<L>, transaction: &Transaction) -> Option<i64> {
     let mut sum: i64 = 0;
     for row in 0..ROWS {
-        sum = sum.wrapping_add(amount(seat, &transaction, row)?);
+        sum = sum.wrapping_add(amount(seat, transaction, row)?);
     }
     Some(sum)
+}
+
+/// The sum of all rows, in a transaction that begins now.
+pub fn sum_of_all<L: Origin>(alloc: Global, seat: &mut Seat<L>) -> Option<i64> {
+    match made(seat.begin(alloc)) {
+        Some(transaction) => sum_seen(seat, &transaction),
+        None => None,
+    }
 }
 
 impl<L: Origin> Clerk<L> {
@@ -92,16 +121,12 @@ impl<L: Origin> Clerk<L> {
         let further = draw(&mut self.state, ROWS as usize - 1) as u64;
         let to = from.wrapping_add(1).wrapping_add(further) % ROWS;
         let amount = draw(&mut self.state, 9) as i64;
-        let Ok(mut transaction) = self.seat.begin(alloc) else {
+        let Some(mut transaction) = made(self.seat.begin(alloc)) else {
             return None;
         };
-        add(
-            &mut self.seat,
-            &mut transaction,
-            from,
-            amount.wrapping_neg(),
-        )?;
-        add(&mut self.seat, &mut transaction, to, amount)?;
+        if !moves(&mut self.seat, &mut transaction, from, to, amount) {
+            return None;
+        }
         Some(transaction)
     }
 
@@ -119,6 +144,14 @@ impl<L: Origin> Clerk<L> {
         }
     }
 
+    /// Keeps a ticket; what the flush came to, if there is memory for it.
+    fn keeps(&mut self, ticket: Ticket, flushed: Tried) -> Tried {
+        if self.tickets.push(ticket).is_err() {
+            return Tried::Wrong;
+        }
+        flushed
+    }
+
     /// Makes a ticket's commit durable, and keeps the ticket if it is settled under its number.
     fn settles<J: JournalStore + Drop, R: Wait + Drop, W: Wait>(
         &mut self,
@@ -129,16 +162,44 @@ impl<L: Origin> Clerk<L> {
         let flushed = self.flushes(rt, line);
         let settled = line.settle(rt, &mut self.seat, &ticket);
         if settled == Settled::Settled(ticket.number) {
-            if self.tickets.push(ticket).is_err() {
-                return Tried::Wrong;
-            }
-            return flushed;
+            return self.keeps(ticket, flushed);
         }
         // It may be pending only where the journal failed.
         if settled == Settled::NotYet && flushed == Tried::Failed {
             return Tried::Failed;
         }
         Tried::Wrong
+    }
+
+    /// Makes all that is pending durable, where another commit came first.
+    fn gives_way<J: JournalStore + Drop, R: Wait + Drop, W: Wait>(
+        &mut self,
+        rt: &W,
+        line: &Line<L, J, R>,
+    ) -> Tried {
+        match self.flushes(rt, line) {
+            Tried::Settled => Tried::Again,
+            other => other,
+        }
+    }
+
+    /// The ticket of a transfer's commit, or why there is none: its commit was refused, or it could not be made.
+    fn commits<J: JournalStore + Drop, R: Wait + Drop, W: Wait>(
+        &mut self,
+        rt: &W,
+        alloc: Global,
+        line: &Line<L, J, R>,
+    ) -> Result<Ticket, Option<CommitFault>>
+        requires { 1 < L.workers }
+    {
+        let Some(transaction) = self.transfer(alloc) else {
+            return Err(None);
+        };
+        let worker = self.worker();
+        match told(line.commit(rt, &mut self.seat, transaction, worker)) {
+            Ok(ticket) => Ok(ticket),
+            Err(fault) => Err(Some(fault)),
+        }
     }
 
     /// Tries a transfer. Where another commit came first, all is made durable, so that the next try
@@ -151,17 +212,10 @@ impl<L: Origin> Clerk<L> {
     ) -> Tried
         requires { 1 < L.workers }
     {
-        let Some(transaction) = self.transfer(alloc) else {
-            return Tried::Wrong;
-        };
-        let worker = self.worker();
-        match line.commit(rt, &mut self.seat, transaction, worker) {
+        match self.commits(rt, alloc, line) {
             Ok(ticket) => self.settles(rt, line, ticket),
-            Err((_, CommitFault::Conflict(_))) => match self.flushes(rt, line) {
-                Tried::Settled => Tried::Again,
-                other => other,
-            },
-            Err((_, CommitFault::Failed)) => Tried::Failed,
+            Err(Some(CommitFault::Conflict(_))) => self.gives_way(rt, line),
+            Err(Some(CommitFault::Failed)) => Tried::Failed,
             Err(_) => Tried::Wrong,
         }
     }
@@ -232,20 +286,25 @@ impl<L: Origin> Clerk<L> {
     ) -> bool
         requires { 1 < L.workers }
     {
-        let Ok(mut transaction) = self.seat.begin(alloc) else {
+        let Some(transaction) = self.opening(alloc) else {
             return false;
         };
-        for row in 0..ROWS {
-            let values = [Value::Int(0), Value::Int(0)];
-            let Ok(()) = self.seat.insert(&mut transaction, 0, RowId(row), &values) else {
-                return false;
-            };
-        }
         let worker = self.worker();
-        match line.commit(rt, &mut self.seat, transaction, worker) {
-            Ok(ticket) => self.settles(rt, line, ticket) == Tried::Settled,
-            Err(_) => false,
+        match made(line.commit(rt, &mut self.seat, transaction, worker)) {
+            Some(ticket) => self.settles(rt, line, ticket) == Tried::Settled,
+            None => false,
         }
+    }
+
+    /// A transaction that puts in all rows.
+    fn opening(&mut self, alloc: Global) -> Option<Transaction> {
+        let Some(mut transaction) = made(self.seat.begin(alloc)) else {
+            return None;
+        };
+        if !puts_in_all(&mut self.seat, &mut transaction) {
+            return None;
+        }
+        Some(transaction)
     }
 
     /// Whether a commit and a flush are refused because the journal has failed.
@@ -257,12 +316,8 @@ impl<L: Origin> Clerk<L> {
     ) -> bool
         requires { 1 < L.workers }
     {
-        let Some(transaction) = self.transfer(alloc) else {
-            return false;
-        };
-        let worker = self.worker();
-        match line.commit(rt, &mut self.seat, transaction, worker) {
-            Err((_, CommitFault::Failed)) => {
+        match self.commits(rt, alloc, line) {
+            Err(Some(CommitFault::Failed)) => {
                 line.flush(rt, &mut self.seat, usize::MAX) == Err(FlushFault::Failed)
             }
             _ => false,

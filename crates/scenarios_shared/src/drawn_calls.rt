@@ -4,6 +4,7 @@
 ghost use Rattle.std.specs.Prelude.{◌≡◌, ◌<◌, ◌≤◌};
 
 use crate::cores::core_on;
+use crate::outcomes::{is_added, made, put, there};
 use journal::MemJournal;
 use mvcc::{Transaction, TxFault};
 use primary::{CommitFault, FlushFault, PrimaryCore, Ticket};
@@ -109,6 +110,14 @@ fn is_sent_same(outs: &[Out], others: &[Out]) -> bool {
             && out.packet.bytes() == other.packet.bytes())
 }
 
+/// Whether a primary sends this for these bytes.
+fn is_sent_by(core: &PrimaryCore<MemJournal>, bytes: &[u8], outs: &[Out]) -> bool {
+    match core.on_bytes(bytes) {
+        Ok(others) => is_sent_same(outs, &others),
+        Err(_) => false,
+    }
+}
+
 impl<L: Origin> Player<L> {
     /// The worker, by the player's number.
     fn worker(&self) -> u8
@@ -119,11 +128,11 @@ impl<L: Origin> Player<L> {
 
     /// Begins anew, and answers whether that is at what is durable.
     fn begins(&mut self, alloc: Global, core: &PrimaryCore<MemJournal>) -> bool {
-        let Ok(transaction) = self.seat.begin(alloc) else {
+        let Some(transaction) = made(self.seat.begin(alloc)) else {
             return false;
         };
-        self.transaction = transaction;
-        self.plain = Transaction::begin(alloc, core.durable());
+        put(&mut self.transaction, transaction);
+        put(&mut self.plain, Transaction::begin(alloc, core.durable()));
         self.transaction.snapshot() == core.durable()
     }
 
@@ -304,12 +313,9 @@ impl<L: Origin> Player<L> {
         core: &PrimaryCore<MemJournal>,
         bytes: &[u8],
     ) -> bool {
-        match (
-            line.on_bytes(rt, &mut self.seat, bytes),
-            core.on_bytes(bytes),
-        ) {
-            (Ok(outs), Ok(others)) => is_sent_same(&outs, &others),
-            _ => false,
+        match line.on_bytes(rt, &mut self.seat, bytes) {
+            Ok(outs) => is_sent_by(core, bytes, &outs),
+            Err(_) => false,
         }
     }
 
@@ -376,6 +382,34 @@ impl<L: Origin> Player<L> {
     }
 }
 
+/// A player with that number, and with a transaction that began on nothing.
+fn player_of<L: Origin>(alloc: Global, seat: Option<Seat<L>>, number: u8) -> Option<Player<L>> {
+    match seat {
+        Some(seat) => Some(Player {
+            seat,
+            transaction: Transaction::begin(alloc, 0),
+            plain: Transaction::begin(alloc, 0),
+            number,
+        }),
+        None => None,
+    }
+}
+
+/// Adds three players. Whether there are seats and memory for them.
+fn add_players<L: Origin, R: Wait + Drop, W: Wait>(
+    rt: &W,
+    alloc: Global,
+    line: &Line<L, MemJournal, R>,
+    players: &mut Vec<Player<L>>,
+) -> bool {
+    for number in 0..3 {
+        if !is_added(players, player_of(alloc, line.seat(rt), number)) {
+            return false;
+        }
+    }
+    true
+}
+
 /// Three players, each with a transaction that began on nothing. `None` if it is out of memory.
 fn players_of<L: Origin, R: Wait + Drop, W: Wait>(
     rt: &W,
@@ -383,16 +417,8 @@ fn players_of<L: Origin, R: Wait + Drop, W: Wait>(
     line: &Line<L, MemJournal, R>,
 ) -> Option<Vec<Player<L>>> {
     let mut players = Vec::new(alloc);
-    for number in 0..3 {
-        let player = Player {
-            seat: line.seat(rt)?,
-            transaction: Transaction::begin(alloc, 0),
-            plain: Transaction::begin(alloc, 0),
-            number,
-        };
-        if players.push(player).is_err() {
-            return None;
-        }
+    if !add_players(rt, alloc, line, &mut players) {
+        return None;
     }
     Some(players)
 }
@@ -409,12 +435,27 @@ fn other_played<L: Origin, R: Wait + Drop, W: Wait>(
     requires { 1 < L.workers }
 {
     let mut tickets = Vec::new(alloc);
+    other_call(rt, alloc, line, core, players, &mut tickets, seed)
+}
+
+/// The same, where the tickets go into this list.
+fn other_call<L: Origin, R: Wait + Drop, W: Wait>(
+    rt: &W,
+    alloc: Global,
+    line: &Line<L, MemJournal, R>,
+    core: &mut PrimaryCore<MemJournal>,
+    players: &mut [Player<L>],
+    tickets: &mut Vec<Ticket>,
+    seed: u64,
+) -> usize
+    requires { 1 < L.workers }
+{
     let mut state = seed;
     for number in 0..CALLS {
         let Some(player) = players.get_mut(draw(&mut state, 3)) else {
             return number;
         };
-        if !player.plays(rt, alloc, line, core, &mut tickets, &mut state) {
+        if !player.plays(rt, alloc, line, core, tickets, &mut state) {
             return number;
         }
     }
@@ -431,8 +472,33 @@ fn other_on_new<L: Origin, R: Wait + Drop, W: Wait>(
 ) -> Result<usize, Fail>
     requires { 1 < L.workers }
 {
-    let mut core = core_on(alloc, MemJournal::new(alloc))?;
-    Ok(other_played(rt, alloc, line, &mut core, players, seed))
+    match core_on(alloc, MemJournal::new(alloc)) {
+        Ok(mut core) => {
+            let other = other_played(rt, alloc, line, &mut core, players, seed);
+            drop(core);
+            Ok(other)
+        }
+        Err(fail) => Err(fail),
+    }
+}
+
+/// The same on this line.
+fn other_on_line<L: Origin, R: Wait + Drop, W: Wait>(
+    rt: &W,
+    alloc: Global,
+    line: &Line<L, MemJournal, R>,
+    seed: u64,
+) -> Result<usize, Fail>
+    requires { 1 < L.workers }
+{
+    match players_of(rt, alloc, line) {
+        Some(mut players) => {
+            let other = other_on_new(rt, alloc, line, &mut players, seed);
+            drop(players);
+            other
+        }
+        None => Err("players".into()),
+    }
 }
 
 /// The same of a line of this primary.
@@ -454,21 +520,22 @@ fn other_answered<L: Origin, R: Wait>(
     if core.workers() < 2 {
         return Err("workers".into());
     }
-    let Ok(line) = Line::<L, MemJournal, &R>::new(alloc, rt, core, start) else {
-        return Err("line".into());
-    };
-    match players_of(rt, alloc, &line) {
-        Some(mut players) => other_on_new(rt, alloc, &line, &mut players, seed),
-        None => Err("players".into()),
+    match made(Line::<L, MemJournal, &R>::new(alloc, rt, core, start)) {
+        Some(line) => {
+            let other = other_on_line(rt, alloc, &line, seed);
+            drop(line);
+            other
+        }
+        None => Err("line".into()),
     }
 }
 
 /// The same of a new primary.
 fn other_of_new<R: Wait>(rt: &R, alloc: Global, seed: u64) -> Result<usize, Fail> {
-    let core = core_on(alloc, MemJournal::new(alloc))?;
-    match Start::new(3) {
-        Ok(start) => other_answered::<Brand, R>(rt, alloc, core, start, seed),
-        Err(_) => Err("start".into()),
+    let start = there(made(Start::new(3)), "start")?;
+    match core_on(alloc, MemJournal::new(alloc)) {
+        Ok(core) => other_answered::<Brand, R>(rt, alloc, core, start, seed),
+        Err(fail) => Err(fail),
     }
 }
 

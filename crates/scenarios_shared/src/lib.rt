@@ -13,6 +13,8 @@ mod gated_journal;
 #[cfg(test)]
 mod many_clerks;
 #[cfg(test)]
+mod outcomes;
+#[cfg(test)]
 mod pushed_rows;
 #[cfg(test)]
 mod refused_memory;

@@ -5,7 +5,8 @@ ghost use Rattle.std.specs.Prelude.{◌≡◌, ◌<◌};
 
 use crate::clerks::{Clerk, sum_of_all};
 use crate::cores::{WORKERS, core_on};
-use journal::{JournalStore, MemJournal, recover};
+use crate::outcomes::{is_added, made};
+use journal::{JournalStore, MemJournal, Recovered, recover};
 use primary::{PrimaryCore, Ticket};
 use rows::{Commit, Schema};
 use scenarios_common::wanted::NUMBERS;
@@ -28,6 +29,36 @@ struct Outcome<J: JournalStore + Drop> {
     came: Came,
 }
 
+/// A clerk with a seat of its own, and that number.
+fn clerk_of<L: Origin>(alloc: Global, seat: Option<Seat<L>>, number: u8) -> Option<Clerk<L>> {
+    match seat {
+        Some(seat) => Some(Clerk {
+            seat,
+            number,
+            state: number as u64,
+            tickets: Vec::new(alloc),
+            has_failed: false,
+        }),
+        None => None,
+    }
+}
+
+/// Adds so many clerks, each with a seat of its own, and its number. Whether there are seats and memory.
+fn add_clerks<L: Origin, J: JournalStore, R: Wait + Drop, W: Wait>(
+    rt: &W,
+    alloc: Global,
+    line: &Line<L, J, R>,
+    count: u8,
+    clerks: &mut Vec<Clerk<L>>,
+) -> bool {
+    for number in 0..count {
+        if !is_added(clerks, clerk_of(alloc, line.seat(rt), number)) {
+            return false;
+        }
+    }
+    true
+}
+
 /// So many clerks, each with a seat of its own, and its number.
 fn clerks_of<L: Origin, J: JournalStore, R: Wait + Drop, W: Wait>(
     rt: &W,
@@ -36,17 +67,8 @@ fn clerks_of<L: Origin, J: JournalStore, R: Wait + Drop, W: Wait>(
     count: u8,
 ) -> Option<Vec<Clerk<L>>> {
     let mut clerks = Vec::new(alloc);
-    for number in 0..count {
-        let clerk = Clerk {
-            seat: line.seat(rt)?,
-            number,
-            state: number as u64,
-            tickets: Vec::new(alloc),
-            has_failed: false,
-        };
-        if clerks.push(clerk).is_err() {
-            return None;
-        }
+    if !add_clerks(rt, alloc, line, count, &mut clerks) {
+        return None;
     }
     Some(clerks)
 }
@@ -72,22 +94,40 @@ fn failed<L: Origin, J: JournalStore + Drop, R: Wait + Drop, W: Wait>(
     Some(failed)
 }
 
+/// Adds all of a list to another one. Whether there is memory for it.
+fn is_joined<T: Drop>(all: &mut Vec<T>, mut more: Vec<T>) -> bool {
+    all.append(&mut more).is_ok()
+}
+
+/// Adds the seat of a clerk, and its tickets. Whether there is memory for it.
+fn is_parted<L: Origin>(clerk: Clerk<L>, seats: &mut Vec<Seat<L>>, all: &mut Vec<Ticket>) -> bool {
+    let Clerk { seat, tickets, .. } = clerk;
+    if !is_added(seats, Some(seat)) {
+        return false;
+    }
+    is_joined(all, tickets)
+}
+
+/// Adds the seats of the clerks, and all their tickets. Whether there is memory for it.
+fn part_all<L: Origin>(
+    clerks: Vec<Clerk<L>>,
+    seats: &mut Vec<Seat<L>>,
+    all: &mut Vec<Ticket>,
+) -> bool {
+    for clerk in clerks {
+        if !is_parted(clerk, seats, all) {
+            return false;
+        }
+    }
+    true
+}
+
 /// The seats of the clerks, and all their tickets.
 fn parted<L: Origin>(alloc: Global, clerks: Vec<Clerk<L>>) -> Option<(Vec<Seat<L>>, Vec<Ticket>)> {
     let mut seats = Vec::new(alloc);
     let mut all = Vec::new(alloc);
-    for clerk in clerks {
-        let Clerk {
-            seat,
-            mut tickets,
-            ..
-        } = clerk;
-        if seats.push(seat).is_err() {
-            return None;
-        }
-        if all.append(&mut tickets).is_err() {
-            return None;
-        }
+    if !part_all(clerks, &mut seats, &mut all) {
+        return None;
     }
     Some((seats, all))
 }
@@ -162,14 +202,45 @@ fn ended<L: Origin, J: JournalStore + Drop, R: Wait + Drop>(
 ) -> Option<Outcome<J>>
     requires { L.parts ≡ L.seats }
 {
-    let (seats, tickets) = parted(alloc, clerks)?;
-    match line.end(seats) {
-        Ok(core) => Some(Outcome {
+    let Some((seats, tickets)) = parted(alloc, clerks) else {
+        return None;
+    };
+    outcome_of(made(line.end(seats)), tickets, came)
+}
+
+/// The outcome, if there is a primary left.
+fn outcome_of<J: JournalStore + Drop>(
+    core: Option<PrimaryCore<J>>,
+    tickets: Vec<Ticket>,
+    came: Came,
+) -> Option<Outcome<J>> {
+    match core {
+        Some(core) => Some(Outcome {
             core,
             tickets,
             came,
         }),
-        Err(_) => None,
+        None => None,
+    }
+}
+
+/// What is left once so many clerks have made their transfers on this line.
+fn left_of<L: Origin + Send + Sync, J: JournalStore + Drop + Send, R: Threads + Wait + Sync>(
+    rt: &R,
+    alloc: Global,
+    line: Line<L, J, &R>,
+    count: u8,
+    each: u32,
+) -> Option<Outcome<J>>
+    requires some { 1 < L.workers }
+    requires whole { L.parts ≡ L.seats }
+{
+    let Some(mut clerks) = clerks_of(rt, alloc, &line, count) else {
+        return None;
+    };
+    match worked(rt, alloc, &line, &mut clerks, each) {
+        Some(came) => ended(alloc, line, clerks, came),
+        None => None,
     }
 }
 
@@ -195,14 +266,8 @@ fn left<L: Origin + Send + Sync, J: JournalStore + Drop + Send, R: Threads + Wai
         return None;
     }
     let count = start.seats;
-    let Ok(line) = Line::<L, J, &R>::new(alloc, rt, core, start) else {
-        return None;
-    };
-    let Some(mut clerks) = clerks_of(rt, alloc, &line, count) else {
-        return None;
-    };
-    match worked(rt, alloc, &line, &mut clerks, each) {
-        Some(came) => ended(alloc, line, clerks, came),
+    match made(Line::<L, J, &R>::new(alloc, rt, core, start)) {
+        Some(line) => left_of(rt, alloc, line, count, each),
         None => None,
     }
 }
@@ -252,10 +317,18 @@ fn are_recovered(
         return Ok(false);
     }
     let schema = Schema::new(alloc, &NUMBERS)?;
-    let Ok(recovered) = recover(alloc, outcome.core.journal().content(), &schema, WORKERS) else {
-        return Err("the journal is refused".into());
-    };
-    Ok(outcome.came.sum == 0 && are_among(&outcome.tickets, &recovered.commits))
+    match recovered(alloc, outcome.core.journal().content(), &schema) {
+        Some(commits) => Ok(outcome.came.sum == 0 && are_among(&outcome.tickets, &commits)),
+        None => Err("the journal is refused".into()),
+    }
+}
+
+/// The commits that the bytes of a journal keep; `None` if it is refused.
+fn recovered(alloc: Global, content: &[u8], schema: &Schema) -> Option<Vec<Commit>> {
+    match made(recover(alloc, content, schema, WORKERS)) {
+        Some(Recovered { commits, .. }) => Some(commits),
+        None => None,
+    }
 }
 
 /// How many clerks there are where the journal does not fail.
@@ -274,7 +347,11 @@ fn keep_the_sum<R: Threads + Wait + Sync>(
         return false;
     };
     match left::<Brand, MemJournal, R>(rt, alloc, core, start, EACH) {
-        Some(outcome) => are_kept(&outcome, 1 + CLERKS as u64 * EACH as u64),
+        Some(outcome) => {
+            let are_kept = are_kept(&outcome, 1 + CLERKS as u64 * EACH as u64);
+            drop(outcome);
+            are_kept
+        }
         None => false,
     }
 }
@@ -313,7 +390,11 @@ fn keep_what_was_settled<R: Threads + Wait + Sync>(
         return Ok(false);
     };
     match left::<Brand, FailingJournal, R>(rt, alloc, core, start, EACH) {
-        Some(outcome) => are_recovered(alloc, &outcome, 4),
+        Some(outcome) => {
+            let are_recovered = are_recovered(alloc, &outcome, 4);
+            drop(outcome);
+            are_recovered
+        }
         None => Ok(false),
     }
 }

@@ -4,6 +4,7 @@
 ghost use Rattle.std.specs.Prelude.{◌≡◌, ◌<◌};
 
 use crate::cores::core_on;
+use crate::outcomes::{made, there};
 use journal::MemJournal;
 use primary::PrimaryCore;
 use rows::{RowId, Value};
@@ -51,12 +52,12 @@ fn commits<L: Origin, R: Wait + Drop, W: Wait>(
 ) -> bool
     requires { 0 < L.workers }
 {
-    let Ok(mut transaction) = seat.begin(alloc) else {
+    let Some(mut transaction) = made(seat.begin(alloc)) else {
         return false;
     };
     let values = [Value::Int(5), Value::Int(-1)];
     seat.insert(&mut transaction, 0, RowId(id), &values).is_ok()
-        && line.commit(rt, seat, transaction, 0).is_ok()
+        && made(line.commit(rt, seat, transaction, 0)).is_some()
 }
 
 /// Whether the commits of worker 0 with these rows are made, and with those before them are durable.
@@ -181,8 +182,50 @@ fn is_based<L: Origin, R: Wait + Drop, W: Wait>(
     }
 }
 
-/// Whether rows are pushed so on a line of this primary: before anything is durable none, then those of
-/// three frames, and once these are dropped those of the next three.
+/// Whether a row has no packet, before anything is durable.
+fn is_nothing_pushed<L: Origin, R: Wait + Drop, W: Wait>(
+    rt: &W,
+    alloc: Global,
+    line: &Line<L, MemJournal, R>,
+    seat: &mut Seat<L>,
+) -> bool {
+    let mut row = Vec::new(alloc);
+    pushed_row(rt, line, seat, &mut row, 0, 0, 3) == Some((0, 0))
+}
+
+/// Whether rows are pushed so at this seat: before anything is durable none, then those of three frames,
+/// and once these are dropped those of the next three.
+fn is_pushed_at<L: Origin, R: Wait + Drop, W: Wait>(
+    rt: &W,
+    alloc: Global,
+    line: &Line<L, MemJournal, R>,
+    seat: &mut Seat<L>,
+) -> bool
+    requires { 0 < L.workers }
+{
+    is_nothing_pushed(rt, alloc, line, seat)
+        && is_filled(rt, alloc, line, seat, 0, FRAMES)
+        && are_rows(rt, alloc, line, seat)
+        && is_based(rt, line, seat)
+        && is_filled(rt, alloc, line, seat, FRAMES, 2 * FRAMES)
+        && are_rows_behind(rt, alloc, line, seat)
+}
+
+/// Whether rows are pushed so at a seat of this line.
+fn is_pushed_on<L: Origin, R: Wait + Drop, W: Wait>(
+    rt: &W,
+    alloc: Global,
+    line: &Line<L, MemJournal, R>,
+) -> bool
+    requires { 0 < L.workers }
+{
+    match line.seat(rt) {
+        Some(mut seat) => is_pushed_at(rt, alloc, line, &mut seat),
+        None => false,
+    }
+}
+
+/// Whether rows are pushed so on a line of this primary.
 fn is_pushed_in_rows<L: Origin, R: Wait>(
     rt: &R,
     alloc: Global,
@@ -198,27 +241,27 @@ fn is_pushed_in_rows<L: Origin, R: Wait>(
     requires seats { start.seats ≡ L.seats }
 {
     core.keeps_legal();
-    let Ok(line) = Line::<L, MemJournal, &R>::new(alloc, rt, core, start) else {
-        return false;
-    };
-    let Some(mut seat) = line.seat(rt) else {
-        return false;
-    };
-    let mut row = Vec::new(alloc);
-    pushed_row(rt, &line, &mut seat, &mut row, 0, 0, 3) == Some((0, 0))
-        && is_filled(rt, alloc, &line, &mut seat, 0, FRAMES)
-        && are_rows(rt, alloc, &line, &mut seat)
-        && is_based(rt, &line, &mut seat)
-        && is_filled(rt, alloc, &line, &mut seat, FRAMES, 2 * FRAMES)
-        && are_rows_behind(rt, alloc, &line, &mut seat)
+    match made(Line::<L, MemJournal, &R>::new(alloc, rt, core, start)) {
+        Some(line) => {
+            let is_pushed = is_pushed_on(rt, alloc, &line);
+            drop(line);
+            is_pushed
+        }
+        None => false,
+    }
+}
+
+/// The same of a new primary.
+fn is_new_pushed_in_rows<R: Wait>(rt: &R, alloc: Global) -> Result<bool, Fail> {
+    let start = there(made(Start::new(1)), "start")?;
+    match core_on(alloc, MemJournal::new(alloc)) {
+        Ok(core) => Ok(is_pushed_in_rows::<Brand, R>(rt, alloc, core, start)),
+        Err(fail) => Err(fail),
+    }
 }
 
 #[test]
 fn a_row_has_the_packets_that_are_pushed_one_by_one(rt: HostRuntime) -> Result<(), Fail> {
-    let core = core_on(rt.alloc(), MemJournal::new(rt.alloc()))?;
-    let Ok(start) = Start::new(1) else {
-        return Err("start".into());
-    };
-    assert!(rt; is_pushed_in_rows::<Brand, _>(&rt, rt.alloc(), core, start));
+    assert!(rt; is_new_pushed_in_rows(&rt, rt.alloc())?);
     Ok(())
 }

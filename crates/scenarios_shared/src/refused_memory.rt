@@ -3,6 +3,7 @@
 ghost use Rattle.std.specs.Prelude.{◌≡◌, ◌<◌};
 
 use crate::cores::core_on;
+use crate::outcomes::{made, there};
 use journal::MemJournal;
 use mvcc::Transaction;
 use primary::{CommitFault, FlushFault, PrimaryCore, Ticket};
@@ -14,23 +15,54 @@ use std::marker::Brand;
 use std::sync::Wait;
 use std::test::Fail;
 
+/// A transaction that begins now, once more if memory was refused.
+fn begun<L: Origin>(alloc: Global, seat: &mut Seat<L>) -> Option<Transaction> {
+    match made(seat.begin(alloc)) {
+        Some(transaction) => Some(transaction),
+        None => made(seat.begin(alloc)),
+    }
+}
+
+/// Whether row 7 is put in with the values 5 and -1, once more if memory was refused.
+fn is_inserted<L: Origin>(seat: &mut Seat<L>, transaction: &mut Transaction) -> bool {
+    let values = [Value::Int(5), Value::Int(-1)];
+    seat.insert(transaction, 0, RowId(7), &values).is_ok()
+        || seat.insert(transaction, 0, RowId(7), &values).is_ok()
+}
+
 /// A transaction that puts in row 7 with the values 5 and -1; each call is made once more if memory was
 /// refused to it.
 fn insertion<L: Origin>(alloc: Global, seat: &mut Seat<L>) -> Option<Transaction> {
-    let mut transaction = match seat.begin(alloc) {
-        Ok(transaction) => transaction,
-        Err(_) => match seat.begin(alloc) {
-            Ok(transaction) => transaction,
-            Err(_) => return None,
-        },
+    let Some(mut transaction) = begun(alloc, seat) else {
+        return None;
     };
-    let values = [Value::Int(5), Value::Int(-1)];
-    if seat.insert(&mut transaction, 0, RowId(7), &values).is_err() {
-        if seat.insert(&mut transaction, 0, RowId(7), &values).is_err() {
-            return None;
-        }
+    if !is_inserted(seat, &mut transaction) {
+        return None;
     }
     Some(transaction)
+}
+
+/// The transaction that was handed back, if that was for want of memory.
+fn lacked_memory<T: Drop>((transaction, fault): (T, CommitFault)) -> Option<T> {
+    match fault {
+        CommitFault::Memory => Some(transaction),
+        _ => None,
+    }
+}
+
+/// The ticket of a transaction's commit, which is asked for once more.
+fn committed_again<L: Origin, R: Wait + Drop, W: Wait>(
+    rt: &W,
+    line: &Line<L, MemJournal, R>,
+    seat: &mut Seat<L>,
+    refusal: (Transaction, CommitFault),
+) -> Option<Ticket>
+    requires { 0 < L.workers }
+{
+    match lacked_memory(refusal) {
+        Some(transaction) => made(line.commit(rt, seat, transaction, 0)),
+        None => None,
+    }
 }
 
 /// The ticket of the row's commit, which is asked for once more if memory was refused.
@@ -42,11 +74,12 @@ fn committed<L: Origin, R: Wait + Drop, W: Wait>(
 ) -> Option<Ticket>
     requires { 0 < L.workers }
 {
-    let transaction = insertion(alloc, seat)?;
+    let Some(transaction) = insertion(alloc, seat) else {
+        return None;
+    };
     match line.commit(rt, seat, transaction, 0) {
         Ok(ticket) => Some(ticket),
-        Err((transaction, CommitFault::Memory)) => line.commit(rt, seat, transaction, 0).ok(),
-        Err(_) => None,
+        Err(refusal) => committed_again(rt, line, seat, refusal),
     }
 }
 
@@ -89,35 +122,37 @@ fn has<L: Origin>(seat: &mut Seat<L>, transaction: &Transaction, number: i64) ->
     }
 }
 
+/// Whether a column of the row is set to 6, once more if memory was refused, which has changed nothing.
+fn is_set<L: Origin>(seat: &mut Seat<L>, transaction: &mut Transaction) -> bool {
+    if seat.set(transaction, 0, RowId(7), 0, Value::Int(6)).is_ok() {
+        return true;
+    }
+    has(seat, transaction, 5) && seat.set(transaction, 0, RowId(7), 0, Value::Int(6)).is_ok()
+}
+
+/// Whether the row is deleted, once more if memory was refused, which has changed nothing.
+fn is_deleted<L: Origin>(seat: &mut Seat<L>, transaction: &mut Transaction) -> bool {
+    if seat.delete(transaction, 0, RowId(7)).is_ok() {
+        return true;
+    }
+    has(seat, transaction, 6) && seat.delete(transaction, 0, RowId(7)).is_ok()
+}
+
+/// Whether the transaction has no row 7.
+fn lacks_row<L: Origin>(seat: &mut Seat<L>, transaction: &Transaction) -> bool {
+    seat.value(transaction, 0, RowId(7), 0).is_err()
+}
+
 /// Whether a later transaction sets a column of the row, and then deletes the row. Each call is made once
 /// more if memory was refused to it, and has changed nothing until then.
 fn is_changed<L: Origin>(alloc: Global, seat: &mut Seat<L>) -> bool {
-    let mut transaction = match seat.begin(alloc) {
-        Ok(transaction) => transaction,
-        Err(_) => match seat.begin(alloc) {
-            Ok(transaction) => transaction,
-            Err(_) => return false,
-        },
+    let Some(mut transaction) = begun(alloc, seat) else {
+        return false;
     };
-    if seat
-        .set(&mut transaction, 0, RowId(7), 0, Value::Int(6))
-        .is_err()
-        && (!has(seat, &transaction, 5)
-            || seat
-                .set(&mut transaction, 0, RowId(7), 0, Value::Int(6))
-                .is_err())
-    {
-        return false;
-    }
-    if !has(seat, &transaction, 6) {
-        return false;
-    }
-    if seat.delete(&mut transaction, 0, RowId(7)).is_err()
-        && (!has(seat, &transaction, 6) || seat.delete(&mut transaction, 0, RowId(7)).is_err())
-    {
-        return false;
-    }
-    seat.value(&transaction, 0, RowId(7), 0).is_err()
+    is_set(seat, &mut transaction)
+        && has(seat, &transaction, 6)
+        && is_deleted(seat, &mut transaction)
+        && lacks_row(seat, &transaction)
 }
 
 /// Whether the row's frame is pushed; asked once more if memory was refused.
@@ -171,6 +206,51 @@ fn is_based<L: Origin, R: Wait + Drop, W: Wait>(
     }
 }
 
+/// Whether the row is committed, made durable and settled.
+fn is_kept<L: Origin, R: Wait + Drop, W: Wait>(
+    rt: &W,
+    alloc: Global,
+    line: &Line<L, MemJournal, R>,
+    seat: &mut Seat<L>,
+) -> bool
+    requires { 0 < L.workers }
+{
+    match committed(rt, alloc, line, seat) {
+        Some(ticket) => is_flushed(rt, line, seat, &ticket) && is_settled(rt, line, seat, &ticket),
+        None => false,
+    }
+}
+
+/// Whether a row is committed, made durable, settled, changed and sent at this seat, and becomes a base.
+fn is_served_at<L: Origin, R: Wait + Drop, W: Wait>(
+    rt: &W,
+    alloc: Global,
+    line: &Line<L, MemJournal, R>,
+    seat: &mut Seat<L>,
+) -> bool
+    requires { 0 < L.workers }
+{
+    is_kept(rt, alloc, line, seat)
+        && is_changed(alloc, seat)
+        && is_pushed(rt, line, seat)
+        && is_answered(rt, line, seat)
+        && is_based(rt, line, seat)
+}
+
+/// The same at a seat of this line.
+fn is_served_on<L: Origin, R: Wait + Drop, W: Wait>(
+    rt: &W,
+    alloc: Global,
+    line: &Line<L, MemJournal, R>,
+) -> bool
+    requires { 0 < L.workers }
+{
+    match line.seat(rt) {
+        Some(mut seat) => is_served_at(rt, alloc, line, &mut seat),
+        None => false,
+    }
+}
+
 /// Whether a row is committed, made durable, settled, changed and sent, and becomes a base, whichever request is
 /// refused. A line that is not made for want of memory hands its primary back.
 fn is_served<L: Origin, R: Wait>(
@@ -188,30 +268,23 @@ fn is_served<L: Origin, R: Wait>(
     requires seats { start.seats ≡ L.seats }
 {
     core.keeps_legal();
-    let line = match Line::<L, MemJournal, &R>::new(alloc, rt, core, start) {
-        Ok(line) => line,
-        Err((core, fault)) => return fault == NewFault::Memory && core.durable() == 0,
-    };
-    let Some(mut seat) = line.seat(rt) else {
-        return false;
-    };
-    let Some(ticket) = committed(rt, alloc, &line, &mut seat) else {
-        return false;
-    };
-    is_flushed(rt, &line, &mut seat, &ticket)
-        && is_settled(rt, &line, &mut seat, &ticket)
-        && is_changed(alloc, &mut seat)
-        && is_pushed(rt, &line, &mut seat)
-        && is_answered(rt, &line, &mut seat)
-        && is_based(rt, &line, &mut seat)
+    match Line::<L, MemJournal, &R>::new(alloc, rt, core, start) {
+        Ok(line) => is_served_on(rt, alloc, &line),
+        Err((core, fault)) => fault == NewFault::Memory && core.durable() == 0,
+    }
+}
+
+/// The same of a new primary.
+fn is_new_served<R: Wait>(rt: &R, alloc: Global) -> Result<bool, Fail> {
+    let start = there(made(Start::new(1)), "start")?;
+    match core_on(alloc, MemJournal::new(alloc)) {
+        Ok(core) => Ok(is_served::<Brand, R>(rt, alloc, core, start)),
+        Err(fail) => Err(fail),
+    }
 }
 
 #[test]
 fn a_line_without_memory_serves_when_asked_again(rt: HostRuntime) -> Result<(), Fail> {
-    let core = core_on(rt.alloc(), MemJournal::new(rt.alloc()))?;
-    let Ok(start) = Start::new(1) else {
-        return Err("start".into());
-    };
-    assert!(rt; is_served::<Brand, _>(&rt, rt.alloc(), core, start));
+    assert!(rt; is_new_served(&rt, rt.alloc())?);
     Ok(())
 }

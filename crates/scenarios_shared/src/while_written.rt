@@ -5,7 +5,8 @@ ghost use Rattle.std.specs.Prelude.{◌≡◌, ◌<◌};
 
 use crate::cores::core_on;
 use crate::gated_journal::{CLOSED, GatedJournal, OPEN, PASSED, is_let_pass, is_waited_for};
-use mvcc::TxFault;
+use crate::outcomes::{made, there};
+use mvcc::{Transaction, TxFault};
 use primary::PrimaryCore;
 use published::LineFault;
 use rows::{RowId, Value};
@@ -28,6 +29,12 @@ enum Meanwhile {
     Base,
 }
 
+/// Whether a transaction puts in a row.
+fn inserts<L: Origin>(seat: &mut Seat<L>, transaction: &mut Transaction, row: u64) -> bool {
+    let values = [Value::Int(5), Value::Int(-1)];
+    seat.insert(transaction, 0, RowId(row), &values).is_ok()
+}
+
 /// The number of a commit that puts in a row.
 fn inserted<L: Origin, R: Wait + Drop, W: Wait>(
     rt: &W,
@@ -38,25 +45,21 @@ fn inserted<L: Origin, R: Wait + Drop, W: Wait>(
 ) -> Option<u64>
     requires { 0 < L.workers }
 {
-    let Ok(mut transaction) = seat.begin(alloc) else {
+    let Some(mut transaction) = made(seat.begin(alloc)) else {
         return None;
     };
-    let values = [Value::Int(5), Value::Int(-1)];
-    if seat
-        .insert(&mut transaction, 0, RowId(row), &values)
-        .is_err()
-    {
+    if !inserts(seat, &mut transaction, row) {
         return None;
     }
-    match line.commit(rt, seat, transaction, 0) {
-        Ok(ticket) => Some(ticket.number),
-        Err(_) => None,
+    match made(line.commit(rt, seat, transaction, 0)) {
+        Some(ticket) => Some(ticket.number),
+        None => None,
     }
 }
 
 /// Whether a transaction that begins now is on nothing, and finds no row 0.
 fn finds_nothing<L: Origin>(alloc: Global, seat: &mut Seat<L>) -> bool {
-    let Ok(transaction) = seat.begin(alloc) else {
+    let Some(transaction) = made(seat.begin(alloc)) else {
         return false;
     };
     transaction.snapshot() == 0
@@ -143,6 +146,39 @@ fn is_passed<L: Origin + Send + Sync, R: Threads + Wait + Sync>(
         && is_based(rt, line, writer, durable, 1)
 }
 
+/// Whether the other thread is done while a thread with this seat writes the journal.
+fn is_let_in_beside<L: Origin + Send + Sync, R: Threads + Wait + Sync>(
+    rt: &R,
+    alloc: Global,
+    line: &Line<L, GatedJournal, &R>,
+    writer: &mut Seat<L>,
+    gate: &AtomicU64,
+    meanwhile: Meanwhile,
+) -> bool
+    requires { 0 < L.workers }
+{
+    match line.seat(rt) {
+        Some(mut other) => is_passed(rt, alloc, line, writer, &mut other, gate, meanwhile),
+        None => false,
+    }
+}
+
+/// Whether the other thread is done while the journal of this line is written.
+fn is_let_in_on<L: Origin + Send + Sync, R: Threads + Wait + Sync>(
+    rt: &R,
+    alloc: Global,
+    line: &Line<L, GatedJournal, &R>,
+    gate: &AtomicU64,
+    meanwhile: Meanwhile,
+) -> bool
+    requires { 0 < L.workers }
+{
+    match line.seat(rt) {
+        Some(mut writer) => is_let_in_beside(rt, alloc, line, &mut writer, gate, meanwhile),
+        None => false,
+    }
+}
+
 /// Whether the other thread is done while the journal of this primary is written.
 fn is_let_in<L: Origin + Send + Sync, R: Threads + Wait + Sync>(
     rt: &R,
@@ -161,17 +197,39 @@ fn is_let_in<L: Origin + Send + Sync, R: Threads + Wait + Sync>(
     requires seats { start.seats ≡ L.seats }
 {
     core.keeps_legal();
-    let Ok(line) = Line::<L, GatedJournal, &R>::new(alloc, rt, core, start) else {
-        return false;
-    };
-    let Some(mut writer) = line.seat(rt) else {
-        return false;
-    };
-    let Some(mut other) = line.seat(rt) else {
-        return false;
-    };
-    is_passed(rt, alloc, &line, &mut writer, &mut other, gate, meanwhile)
-        && gate.load(Ordering::SeqCst) == PASSED
+    match made(Line::<L, GatedJournal, &R>::new(alloc, rt, core, start)) {
+        Some(line) => {
+            let is_let_in = is_let_in_on(rt, alloc, &line, gate, meanwhile);
+            drop(line);
+            is_let_in && gate.load(Ordering::SeqCst) == PASSED
+        }
+        None => false,
+    }
+}
+
+/// A primary on a journal behind this gate.
+fn core_behind(
+    alloc: Global,
+    gate: &Arc<AtomicU64, Global>,
+) -> Result<PrimaryCore<GatedJournal>, Fail> {
+    match Arc::try_clone(gate) {
+        Ok(theirs) => core_on(alloc, GatedJournal::new(alloc, theirs)),
+        Err(fault) => Err(fault.into()),
+    }
+}
+
+/// The same of a new primary behind this gate.
+fn is_let_through<R: Threads + Wait + Sync>(
+    rt: &R,
+    alloc: Global,
+    gate: &Arc<AtomicU64, Global>,
+    meanwhile: Meanwhile,
+) -> Result<bool, Fail> {
+    let start = there(made(Start::new(2)), "start")?;
+    match core_behind(alloc, gate) {
+        Ok(core) => Ok(is_let_in::<Brand, R>(rt, alloc, core, start, gate, meanwhile)),
+        Err(fail) => Err(fail),
+    }
 }
 
 /// The same of a new primary.
@@ -180,13 +238,10 @@ fn is_let_into_new<R: Threads + Wait + Sync>(
     alloc: Global,
     meanwhile: Meanwhile,
 ) -> Result<bool, Fail> {
-    let gate = Arc::new(alloc, AtomicU64::new(OPEN))?;
-    let theirs = Arc::try_clone(&gate)?;
-    let core = core_on(alloc, GatedJournal::new(alloc, theirs))?;
-    let Ok(start) = Start::new(2) else {
-        return Err("start".into());
-    };
-    Ok(is_let_in::<Brand, R>(rt, alloc, core, start, &gate, meanwhile))
+    match Arc::new(alloc, AtomicU64::new(OPEN)) {
+        Ok(gate) => is_let_through(rt, alloc, &gate, meanwhile),
+        Err(fault) => Err(fault.into()),
+    }
 }
 
 #[test]

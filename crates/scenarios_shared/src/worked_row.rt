@@ -3,8 +3,9 @@
 ghost use Rattle.std.specs.Prelude.{◌≡◌, ◌<◌};
 
 use crate::cores::core_on;
+use crate::outcomes::{made, there};
 use journal::MemJournal;
-use mvcc::TxFault;
+use mvcc::{Transaction, TxFault};
 use primary::{PrimaryCore, Ticket};
 use published::LineFault;
 use rows::{RowId, Value};
@@ -15,6 +16,12 @@ use std::marker::Brand;
 use std::sync::Wait;
 use std::test::Fail;
 
+/// Whether a transaction puts in row 7 with the values 5 and -1.
+fn inserts<L: Origin>(seat: &mut Seat<L>, transaction: &mut Transaction) -> bool {
+    let values = [Value::Int(5), Value::Int(-1)];
+    seat.insert(transaction, 0, RowId(7), &values).is_ok()
+}
+
 /// The ticket of a commit that puts in row 7 with the values 5 and -1, for worker 0.
 fn inserted<L: Origin, R: Wait + Drop, W: Wait>(
     rt: &W,
@@ -24,17 +31,13 @@ fn inserted<L: Origin, R: Wait + Drop, W: Wait>(
 ) -> Option<Ticket>
     requires { 0 < L.workers }
 {
-    let Ok(mut transaction) = seat.begin(alloc) else {
+    let Some(mut transaction) = made(seat.begin(alloc)) else {
         return None;
     };
-    let values = [Value::Int(5), Value::Int(-1)];
-    if seat.insert(&mut transaction, 0, RowId(7), &values).is_err() {
+    if !inserts(seat, &mut transaction) {
         return None;
     }
-    match line.commit(rt, seat, transaction, 0) {
-        Ok(ticket) => Some(ticket),
-        Err(_) => None,
-    }
+    made(line.commit(rt, seat, transaction, 0))
 }
 
 /// Whether the first packet of worker 0's stream has these bytes, or there is none.
@@ -53,7 +56,7 @@ fn is_pushed<L: Origin, R: Wait + Drop, W: Wait>(
 
 /// Whether a transaction that begins now has a snapshot with the row, and finds 5 in its first column.
 fn reads_five<L: Origin>(alloc: Global, seat: &mut Seat<L>) -> bool {
-    let Ok(transaction) = seat.begin(alloc) else {
+    let Some(transaction) = made(seat.begin(alloc)) else {
         return false;
     };
     transaction.snapshot() >= 1 && seat.value(&transaction, 0, RowId(7), 0) == Ok(Value::Int(5))
@@ -61,7 +64,7 @@ fn reads_five<L: Origin>(alloc: Global, seat: &mut Seat<L>) -> bool {
 
 /// Whether a transaction that begins now adds a column to the table, and finds its value in the row.
 fn adds_column<L: Origin>(alloc: Global, seat: &mut Seat<L>) -> bool {
-    let Ok(mut transaction) = seat.begin(alloc) else {
+    let Some(mut transaction) = made(seat.begin(alloc)) else {
         return false;
     };
     seat.add_column(&mut transaction, 0, Value::Int(3)) == Ok(())
@@ -101,6 +104,39 @@ fn is_based<L: Origin, R: Wait + Drop, W: Wait>(
     true
 }
 
+/// Whether a transaction that began on nothing finds no row once the reader met the writer, and one that
+/// begins then finds the row, also in a base.
+fn is_read<L: Origin, R: Wait + Drop, W: Wait>(
+    rt: &W,
+    alloc: Global,
+    line: &Line<L, MemJournal, R>,
+    reader: &mut Seat<L>,
+    writer: &mut Seat<L>,
+    old: &Transaction,
+) -> bool {
+    reader.meet(writer);
+    reader.value(old, 0, RowId(7), 0) == Err(LineFault::Tx(TxFault::Missing))
+        && reads_five(alloc, reader)
+        && adds_column(alloc, reader)
+        && is_based(rt, line, reader)
+}
+
+/// Whether the row is committed, and made durable.
+fn is_written<L: Origin, R: Wait + Drop, W: Wait>(
+    rt: &W,
+    alloc: Global,
+    line: &Line<L, MemJournal, R>,
+    reader: &mut Seat<L>,
+    writer: &mut Seat<L>,
+) -> bool
+    requires { 0 < L.workers }
+{
+    match inserted(rt, alloc, line, writer) {
+        Some(ticket) => is_flushed(rt, line, reader, writer, &ticket),
+        None => false,
+    }
+}
+
 /// Whether each answer of the two seats is the one that is written here.
 fn is_told<L: Origin, R: Wait + Drop, W: Wait>(
     rt: &W,
@@ -111,20 +147,57 @@ fn is_told<L: Origin, R: Wait + Drop, W: Wait>(
 ) -> bool
     requires { 0 < L.workers }
 {
-    let Ok(old) = reader.begin(alloc) else {
+    let Some(old) = made(reader.begin(alloc)) else {
         return false;
     };
-    let Some(ticket) = inserted(rt, alloc, line, writer) else {
-        return false;
-    };
-    if old.snapshot() != 0 || !is_flushed(rt, line, reader, writer, &ticket) {
-        return false;
+    is_written(rt, alloc, line, reader, writer)
+        && old.snapshot() == 0
+        && is_read(rt, alloc, line, reader, writer, &old)
+}
+
+/// The seats, and one more; `None` if there is no memory for it.
+fn with<T: Drop>(mut seats: Vec<T>, seat: T) -> Option<Vec<T>> {
+    if seats.push(seat).is_err() {
+        return None;
     }
-    reader.meet(writer);
-    reader.value(&old, 0, RowId(7), 0) == Err(LineFault::Tx(TxFault::Missing))
-        && reads_five(alloc, reader)
-        && adds_column(alloc, reader)
-        && is_based(rt, line, reader)
+    Some(seats)
+}
+
+/// What is handed back, if something is.
+fn back<T: Drop, B: Drop>(outcome: Result<T, B>) -> Option<B> {
+    match outcome {
+        Ok(_) => None,
+        Err(back) => Some(back),
+    }
+}
+
+/// The line and its seats, which are handed back if it is to end with these.
+fn handed_back<L: Origin, R: Wait + Drop>(
+    line: Line<L, MemJournal, R>,
+    seats: Option<Vec<Seat<L>>>,
+) -> Option<(Line<L, MemJournal, R>, Vec<Seat<L>>)>
+    requires { L.parts ≡ L.seats }
+{
+    match seats {
+        Some(seats) => back(line.end(seats)),
+        None => None,
+    }
+}
+
+/// Whether the line ends with these seats, and its primary then has one durable commit.
+fn ends<L: Origin, R: Wait + Drop>(
+    line: Line<L, MemJournal, R>,
+    seats: Option<Vec<Seat<L>>>,
+) -> bool
+    requires { L.parts ≡ L.seats }
+{
+    let Some(seats) = seats else {
+        return false;
+    };
+    match made(line.end(seats)) {
+        Some(core) => core.durable() == 1,
+        None => false,
+    }
 }
 
 /// Whether the line is handed back while a seat is missing, and ends with both.
@@ -136,20 +209,41 @@ fn is_ended<L: Origin, R: Wait + Drop>(
 ) -> bool
     requires { L.parts ≡ L.seats }
 {
-    let mut seats = Vec::new(alloc);
-    if seats.push(reader).is_err() {
-        return false;
+    match handed_back(line, with(Vec::new(alloc), reader)) {
+        Some((line, seats)) => seats.len() == 1 && ends(line, with(seats, writer)),
+        None => false,
     }
-    let Err((line, mut seats)) = line.end(seats) else {
+}
+
+/// Two seats of a line.
+fn two_seats<L: Origin, R: Wait + Drop, W: Wait>(
+    rt: &W,
+    line: &Line<L, MemJournal, R>,
+) -> Option<(Seat<L>, Seat<L>)> {
+    both(line.seat(rt), line.seat(rt))
+}
+
+/// Both, if they are there.
+fn both<T: Drop>(first: Option<T>, second: Option<T>) -> Option<(T, T)> {
+    match (first, second) {
+        (Some(first), Some(second)) => Some((first, second)),
+        _ => None,
+    }
+}
+
+/// Whether all goes so on this line.
+fn is_worked_on<L: Origin, R: Wait + Drop, W: Wait>(
+    rt: &W,
+    alloc: Global,
+    line: Line<L, MemJournal, R>,
+) -> bool
+    requires some { 0 < L.workers }
+    requires whole { L.parts ≡ L.seats }
+{
+    let Some((mut reader, mut writer)) = two_seats(rt, &line) else {
         return false;
     };
-    if seats.len() != 1 || seats.push(writer).is_err() {
-        return false;
-    }
-    match line.end(seats) {
-        Ok(core) => core.durable() == 1,
-        Err(_) => false,
-    }
+    is_told(rt, alloc, &line, &mut reader, &mut writer) && is_ended(alloc, line, reader, writer)
 }
 
 /// Whether all goes so on a line of this primary.
@@ -169,27 +263,23 @@ fn is_worked<L: Origin, R: Wait>(
     requires whole { L.parts ≡ L.seats }
 {
     core.keeps_legal();
-    let Ok(line) = Line::<L, MemJournal, &R>::new(alloc, rt, core, start) else {
-        return false;
-    };
-    let Some(mut reader) = line.seat(rt) else {
-        return false;
-    };
-    let Some(mut writer) = line.seat(rt) else {
-        return false;
-    };
-    if !is_told(rt, alloc, &line, &mut reader, &mut writer) {
-        return false;
+    match made(Line::<L, MemJournal, &R>::new(alloc, rt, core, start)) {
+        Some(line) => is_worked_on(rt, alloc, line),
+        None => false,
     }
-    is_ended(alloc, line, reader, writer)
+}
+
+/// The same of a new primary.
+fn is_new_worked<R: Wait>(rt: &R, alloc: Global) -> Result<bool, Fail> {
+    let start = there(made(Start::new(2)), "start")?;
+    match core_on(alloc, MemJournal::new(alloc)) {
+        Ok(core) => Ok(is_worked::<Brand, R>(rt, alloc, core, start)),
+        Err(fail) => Err(fail),
+    }
 }
 
 #[test]
 fn a_row_goes_from_seat_to_seat(rt: HostRuntime) -> Result<(), Fail> {
-    let core = core_on(rt.alloc(), MemJournal::new(rt.alloc()))?;
-    let Ok(start) = Start::new(2) else {
-        return Err("start".into());
-    };
-    assert!(rt; is_worked::<Brand, _>(&rt, rt.alloc(), core, start));
+    assert!(rt; is_new_worked(&rt, rt.alloc())?);
     Ok(())
 }

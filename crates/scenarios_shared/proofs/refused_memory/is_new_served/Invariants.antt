@@ -1,5 +1,5 @@
 -- The line: the name that was just made, and the primary that is handed in.
-use Rattle.scenarios_shared.proofs.refused_memory.a_line_without_memory_serves_when_asked_again.Given as goal
+use Rattle.scenarios_shared.proofs.refused_memory.is_new_served.Given as goal
 
 abbrev pub ghosts-is_served-L-Naming : goal.ghosts-is_served-L-Naming
 ghosts-is_served-L-Naming g a = record { book = a.start.opened.seen.book }

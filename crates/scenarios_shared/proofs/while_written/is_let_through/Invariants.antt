@@ -1,5 +1,5 @@
 -- The line: the name that was just made, and the primary that is handed in.
-use Rattle.scenarios_shared.proofs.while_written.is_let_into_new.Given as goal
+use Rattle.scenarios_shared.proofs.while_written.is_let_through.Given as goal
 
 abbrev pub ghosts-is_let_in-L-Naming : goal.ghosts-is_let_in-L-Naming
 ghosts-is_let_in-L-Naming g a = record { book = a.start.opened.seen.book }

@@ -1,5 +1,5 @@
 -- The line: the name that was just made, and the primary that is handed in.
-use Rattle.scenarios_shared.proofs.pushed_rows.a_row_has_the_packets_that_are_pushed_one_by_one.Given as goal
+use Rattle.scenarios_shared.proofs.pushed_rows.is_new_pushed_in_rows.Given as goal
 
 abbrev pub ghosts-is_pushed_in_rows-L-Naming : goal.ghosts-is_pushed_in_rows-L-Naming
 ghosts-is_pushed_in_rows-L-Naming g a = record { book = a.start.opened.seen.book }

@@ -1,5 +1,5 @@
 -- The line: the name that was just made, and the primary that is handed in.
-use Rattle.scenarios_shared.proofs.worked_row.a_row_goes_from_seat_to_seat.Given as goal
+use Rattle.scenarios_shared.proofs.worked_row.is_new_worked.Given as goal
 
 abbrev pub ghosts-is_worked-L-Naming : goal.ghosts-is_worked-L-Naming
 ghosts-is_worked-L-Naming g a = record { book = a.start.opened.seen.book }
