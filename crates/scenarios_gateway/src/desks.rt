@@ -7,10 +7,11 @@ use gateway::{JobDesk, WorkerCount};
 use http::Request;
 use http_server::{Response, Rope};
 use journal::JournalStore;
-use primary::PrimaryCore;
+use primary::{PrimaryCore, StartFault};
 use script::{Setup, read_settings};
 use shared::{Line, Origin, Start};
 use std::alloc::Global;
+use std::marker::Brand;
 use std::sync::Wait;
 use std::test::Fail;
 
@@ -56,21 +57,77 @@ pub fn answer_of<L: Origin, J: JournalStore + Drop, R: Wait>(
     desk: &mut JobDesk<'_, L, J, &R, R>,
     exchange: &Exchange,
 ) -> Option<(u16, bool)> {
-    let (method, target, body, _, text) = *exchange;
-    let Ok(request) = Request::builder(alloc)
+    let Some(request) = made(request_of(alloc, exchange)) else {
+        return None;
+    };
+    let answer = answer_to(alloc, desk, &request, exchange.4);
+    drop(request);
+    Some(answer)
+}
+
+/// The request of an exchange.
+fn request_of(alloc: Global, exchange: &Exchange) -> Result<Request<Bytes>, http::Error> {
+    let (method, target, body, _, _) = *exchange;
+    Request::builder(alloc)
         .method(method)
         .uri(target)
         .body(Bytes::from_static(body))
-    else {
+}
+
+/// The same of a request that has been made.
+fn answer_to<L: Origin, J: JournalStore + Drop, R: Wait>(
+    alloc: Global,
+    desk: &mut JobDesk<'_, L, J, &R, R>,
+    request: &Request<Bytes>,
+    text: &[u8],
+) -> (u16, bool) {
+    let mut response = Response::new(alloc);
+    desk.take(request, &mut response);
+    let status = response.status.as_u16();
+    let is_so = is_text(&mut response.body, text);
+    drop(response);
+    (status, is_so)
+}
+
+/// What was made, if it was.
+pub fn made<T: Drop, E: Drop>(outcome: Result<T, E>) -> Option<T> {
+    match outcome {
+        Ok(value) => Some(value),
+        Err(_) => None,
+    }
+}
+
+/// The primary that was started, or why none was.
+pub fn started<C: Drop, J: Drop, F: Drop>(
+    outcome: Result<C, (J, StartFault<F>)>,
+) -> Result<C, Fail> {
+    match outcome {
+        Ok(core) => Ok(core),
+        Err((_, StartFault::Memory)) => Err("out of memory".into()),
+        Err(_) => Err("not started".into()),
+    }
+}
+
+/// A desk at the first two seats of a line.
+pub fn desk_at<'a, 'b, L: Origin, J: JournalStore + Drop, R: Wait>(
+    rt: &'a R,
+    alloc: Global,
+    line: &'a Line<L, J, &'b R>,
+    setup: &'a Setup,
+    workers: WorkerCount<L>,
+) -> Option<JobDesk<'a, L, J, &'b R, R>> {
+    let Some(seat) = line.seat(rt) else {
         return None;
     };
-    let mut response = Response::new(alloc);
-    desk.take(&request, &mut response);
-    Some((response.status.as_u16(), is_text(&mut response.body, text)))
+    let Some(looking) = line.seat(rt) else {
+        drop(seat);
+        return None;
+    };
+    Some(JobDesk::new(rt, alloc, line, setup, workers, seat, looking))
 }
 
 /// Whether a desk answers the requests of a round so, and then settles so.
-pub fn goes_so<L: Origin, J: JournalStore + Drop, R: Wait>(
+fn goes_so<L: Origin, J: JournalStore + Drop, R: Wait>(
     alloc: Global,
     desk: &mut JobDesk<'_, L, J, &R, R>,
     round: &Round,
@@ -84,7 +141,7 @@ pub fn goes_so<L: Origin, J: JournalStore + Drop, R: Wait>(
 }
 
 /// Whether a desk goes so round by round, on a line of this primary.
-pub fn all_go_so<L: Origin, J: JournalStore + Drop, R: Wait>(
+fn all_go_so<L: Origin, J: JournalStore + Drop, R: Wait>(
     rt: &R,
     alloc: Global,
     core: PrimaryCore<J>,
@@ -101,17 +158,57 @@ pub fn all_go_so<L: Origin, J: JournalStore + Drop, R: Wait>(
     requires seats { start.seats ≡ L.seats }
 {
     let count = core.workers();
-    let Ok(line) = Line::<L, J, &R>::new(alloc, rt, core, start) else {
+    let Some(line) = made(Line::<L, J, &R>::new(alloc, rt, core, start)) else {
         return None;
     };
-    let seat = line.seat(rt)?;
-    let looking = line.seat(rt)?;
-    let workers = WorkerCount::new(count);
-    let mut desk = JobDesk::new(rt, alloc, &line, setup, workers, seat, looking);
+    all_go_so_on(rt, alloc, &line, setup, WorkerCount::new(count), rounds)
+}
+
+/// The same on this line.
+fn all_go_so_on<'a, 'b, L: Origin, J: JournalStore + Drop, R: Wait>(
+    rt: &'a R,
+    alloc: Global,
+    line: &'a Line<L, J, &'b R>,
+    setup: &'a Setup,
+    workers: WorkerCount<L>,
+    rounds: &[Round],
+) -> Option<bool> {
+    let Some(mut desk) = desk_at(rt, alloc, line, setup, workers) else {
+        return None;
+    };
+    let are_so = rounds_go_so(alloc, &mut desk, rounds);
+    drop(desk);
+    are_so
+}
+
+/// The same at this desk.
+pub fn rounds_go_so<L: Origin, J: JournalStore + Drop, R: Wait>(
+    alloc: Global,
+    desk: &mut JobDesk<'_, L, J, &R, R>,
+    rounds: &[Round],
+) -> Option<bool> {
     for round in rounds {
-        if !goes_so(alloc, &mut desk, round)? {
+        if !goes_so(alloc, desk, round)? {
             return Some(false);
         }
     }
     Some(true)
+}
+
+/// The same on a line of its own, whose primary is this one.
+pub fn go_so_after<J: JournalStore + Drop, R: Wait>(
+    rt: &R,
+    alloc: Global,
+    core: PrimaryCore<J>,
+    setup: &Setup,
+    rounds: &[Round],
+) -> Result<bool, Fail> {
+    let Some(start) = made(Start::new(2)) else {
+        drop(core);
+        return Err("start".into());
+    };
+    match all_go_so::<Brand, J, R>(rt, alloc, core, start, setup, rounds) {
+        Some(are_so) => Ok(are_so),
+        None => Err("no desk".into()),
+    }
 }

@@ -1,12 +1,11 @@
 //! A journal that fails: nothing of the round stands.
 
-use crate::desks::{Round, WORKERS, all_go_so, setup};
+use crate::desks::{Round, WORKERS, go_so_after, setup, started};
 use journal::JournalStore;
-use primary::{PrimaryCore, StartFault};
+use primary::PrimaryCore;
 use scenarios_journal_common::failing_journal::{Failing, FailingJournal, Failure};
-use shared::Start;
+use script::Setup;
 use std::alloc::Global;
-use std::marker::Brand;
 use std::sync::Wait;
 use std::test::Fail;
 
@@ -88,19 +87,25 @@ const WITHIN: [Round; 2] = [
 /// Whether rounds go so on a journal that fails at its second flush.
 fn go_so<R: Wait>(rt: &R, alloc: Global, rounds: &[Round]) -> Result<bool, Fail> {
     let setup = setup(alloc)?;
+    let are_so = go_so_with(rt, alloc, &setup, rounds);
+    drop(setup);
+    are_so
+}
+
+/// The same with this setup.
+fn go_so_with<R: Wait>(
+    rt: &R,
+    alloc: Global,
+    setup: &Setup,
+    rounds: &[Round],
+) -> Result<bool, Fail> {
     let journal = FailingJournal::of(Vec::new(alloc), SECOND_FLUSH);
     if journal.faults() == u64::MAX {
+        drop(journal);
         return Err("too many faults".into());
     }
-    let core = match PrimaryCore::start(alloc, journal, &setup.schema, WORKERS) {
-        Ok(core) => core,
-        Err((_, StartFault::Memory)) => return Err("out of memory".into()),
-        Err(_) => return Err("not started".into()),
-    };
-    let start = Start::new(2).ok().ok_or("start")?;
-    Ok(all_go_so::<Brand, FailingJournal, _>(rt, alloc, core, start, &setup, rounds).ok_or(
-        "no desk",
-    )?)
+    let core = started(PrimaryCore::start(alloc, journal, &setup.schema, WORKERS))?;
+    go_so_after(rt, alloc, core, setup, rounds)
 }
 
 #[test]

@@ -2,7 +2,7 @@
 
 ghost use Rattle.std.specs.Prelude.{◌≡◌};
 
-use crate::desks::{Exchange, WORKERS, answer_of, setup};
+use crate::desks::{Exchange, WORKERS, answer_of, desk_at, made, setup, started};
 use gateway::{JobDesk, WorkerCount};
 use journal::{JournalStore, MemJournal};
 use primary::PrimaryCore;
@@ -65,26 +65,62 @@ fn is_true_on_line<L: Origin, J: JournalStore + Drop, R: Wait>(
     requires seats { start.seats ≡ L.seats }
 {
     let count = core.workers();
-    let Ok(line) = Line::<L, J, &R>::new(alloc, rt, core, start) else {
+    let Some(line) = made(Line::<L, J, &R>::new(alloc, rt, core, start)) else {
         return None;
     };
-    let seat = line.seat(rt)?;
-    let looking = line.seat(rt)?;
-    let workers = WorkerCount::new(count);
-    let mut desk = JobDesk::new(rt, alloc, &line, setup, workers, seat, looking);
-    is_true(alloc, &mut desk)
+    is_true_at_seats(rt, alloc, &line, setup, WorkerCount::new(count))
+}
+
+/// The same at the seats of this line.
+fn is_true_at_seats<'a, 'b, L: Origin, J: JournalStore + Drop, R: Wait>(
+    rt: &'a R,
+    alloc: Global,
+    line: &'a Line<L, J, &'b R>,
+    setup: &'a Setup,
+    workers: WorkerCount<L>,
+) -> Option<bool> {
+    let Some(mut desk) = desk_at(rt, alloc, line, setup, workers) else {
+        return None;
+    };
+    let is_true = is_true(alloc, &mut desk);
+    drop(desk);
+    is_true
+}
+
+/// The same of a primary that is started with this setup.
+fn is_true_with<R: Wait>(rt: &R, alloc: Global, setup: &Setup) -> Result<bool, Fail> {
+    let journal = MemJournal::new(alloc);
+    let core = started(PrimaryCore::start(alloc, journal, &setup.schema, WORKERS))?;
+    is_true_after(rt, alloc, core, setup)
+}
+
+/// The same of this primary, on a line of its own.
+fn is_true_after<R: Wait>(
+    rt: &R,
+    alloc: Global,
+    core: PrimaryCore<MemJournal>,
+    setup: &Setup,
+) -> Result<bool, Fail> {
+    let Some(start) = made(Start::new(2)) else {
+        drop(core);
+        return Err("out of memory".into());
+    };
+    match is_true_on_line::<Brand, MemJournal, R>(rt, alloc, core, start, setup) {
+        Some(is_true) => Ok(is_true),
+        None => Err("out of memory".into()),
+    }
+}
+
+/// The same of a primary that is started.
+fn is_true_after_start<R: Wait>(rt: &R, alloc: Global) -> Result<bool, Fail> {
+    let setup = setup(alloc)?;
+    let is_true = is_true_with(rt, alloc, &setup);
+    drop(setup);
+    is_true
 }
 
 #[test]
 fn jobs_without_memory_are_told_the_truth(rt: HostRuntime) -> Result<(), Fail> {
-    let alloc = rt.alloc();
-    let setup = setup(alloc)?;
-    let journal = MemJournal::new(alloc);
-    let Ok(core) = PrimaryCore::start(alloc, journal, &setup.schema, WORKERS) else {
-        return Err("out of memory".into());
-    };
-    let start = Start::new(2).ok().ok_or("out of memory")?;
-    let told = is_true_on_line::<Brand, MemJournal, _>(&rt, alloc, core, start, &setup);
-    assert!(rt; told.ok_or("out of memory")?);
+    assert!(rt; is_true_after_start(&rt, rt.alloc())?);
     Ok(())
 }

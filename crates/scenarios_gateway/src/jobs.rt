@@ -1,11 +1,10 @@
 //! Jobs in bodies: what they are answered, and what later ones find.
 
-use crate::desks::{Round, WORKERS, all_go_so, setup};
+use crate::desks::{Round, WORKERS, go_so_after, setup, started};
 use journal::MemJournal;
-use primary::{PrimaryCore, StartFault};
-use shared::Start;
+use primary::PrimaryCore;
+use script::Setup;
 use std::alloc::Global;
-use std::marker::Brand;
 use std::sync::Wait;
 use std::test::Fail;
 
@@ -226,13 +225,21 @@ const TOGETHER: [Round; 2] = [
 /// Whether rounds go so on a new primary.
 fn go_so<R: Wait>(rt: &R, alloc: Global, rounds: &[Round]) -> Result<bool, Fail> {
     let setup = setup(alloc)?;
-    let core = match PrimaryCore::start(alloc, MemJournal::new(alloc), &setup.schema, WORKERS) {
-        Ok(core) => core,
-        Err((_, StartFault::Memory)) => return Err("out of memory".into()),
-        Err(_) => return Err("not started".into()),
-    };
-    let start = Start::new(2).ok().ok_or("start")?;
-    Ok(all_go_so::<Brand, MemJournal, _>(rt, alloc, core, start, &setup, rounds).ok_or("no desk")?)
+    let are_so = go_so_with(rt, alloc, &setup, rounds);
+    drop(setup);
+    are_so
+}
+
+/// The same with this setup.
+fn go_so_with<R: Wait>(
+    rt: &R,
+    alloc: Global,
+    setup: &Setup,
+    rounds: &[Round],
+) -> Result<bool, Fail> {
+    let journal = MemJournal::new(alloc);
+    let core = started(PrimaryCore::start(alloc, journal, &setup.schema, WORKERS))?;
+    go_so_after(rt, alloc, core, setup, rounds)
 }
 
 #[test]

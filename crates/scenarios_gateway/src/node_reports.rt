@@ -2,9 +2,9 @@
 
 ghost use Rattle.std.specs.Prelude.{◌≡◌};
 
-use crate::desks::{Round, WORKERS, goes_so, setup};
+use crate::desks::{Round, WORKERS, desk_at, made, rounds_go_so, setup, started};
 use figures::Figures;
-use gateway::{JobDesk, NodeFacts, WorkerCount};
+use gateway::{NodeFacts, WorkerCount};
 use journal::{JournalStore, MemJournal};
 use primary::PrimaryCore;
 use script::Setup;
@@ -68,12 +68,13 @@ fn facts_of<'a>(figures: &'a Figures) -> NodeFacts<'a> {
 }
 
 /// Whether a desk tells these, on a line of this primary.
-fn tells_so<'a, L: Origin, J: JournalStore + Drop, R: Wait>(
-    rt: &'a R,
+fn tells_so<L: Origin, J: JournalStore + Drop, R: Wait>(
+    rt: &R,
     alloc: Global,
     core: PrimaryCore<J>,
     start: Start,
-    setup: &'a Setup,
+    setup: &Setup,
+    figures: &Figures,
 ) -> Option<bool>
     requires book { start.opened.seen.book ≡ L.book }
     requires schema { core.primary.schema ≡ L.schema }
@@ -84,33 +85,82 @@ fn tells_so<'a, L: Origin, J: JournalStore + Drop, R: Wait>(
     requires seats { start.seats ≡ L.seats }
 {
     let count = core.workers();
-    let figures = Figures::new(alloc, setup.replicas).ok()?;
-    let Ok(line) = Line::<L, J, &R>::new(alloc, rt, core, start) else {
+    let Some(line) = made(Line::<L, J, &R>::new(alloc, rt, core, start)) else {
         return None;
     };
-    let seat = line.seat(rt)?;
-    let looking = line.seat(rt)?;
-    let facts = facts_of(&figures);
-    let workers = WorkerCount::new(count);
-    let desk = JobDesk::new(rt, alloc, &line, setup, workers, seat, looking);
+    tells_so_on(rt, alloc, &line, setup, WorkerCount::new(count), figures)
+}
+
+/// The same on this line.
+fn tells_so_on<'a, 'b, L: Origin, J: JournalStore + Drop, R: Wait>(
+    rt: &'a R,
+    alloc: Global,
+    line: &'a Line<L, J, &'b R>,
+    setup: &'a Setup,
+    workers: WorkerCount<L>,
+    figures: &'a Figures,
+) -> Option<bool> {
+    let facts = facts_of(figures);
+    let Some(desk) = desk_at(rt, alloc, line, setup, workers) else {
+        return None;
+    };
     let mut desk = desk.with_facts(&facts);
-    for round in &STATUS {
-        if !goes_so(alloc, &mut desk, round)? {
-            return Some(false);
-        }
+    let tells = rounds_go_so(alloc, &mut desk, &STATUS);
+    drop(desk);
+    tells
+}
+
+/// Whether a desk tells these of a primary that is started with this setup.
+fn tells_with<R: Wait>(rt: &R, alloc: Global, setup: &Setup) -> Result<bool, Fail> {
+    let journal = MemJournal::new(alloc);
+    let core = started(PrimaryCore::start(alloc, journal, &setup.schema, WORKERS))?;
+    tells_of(rt, alloc, core, setup)
+}
+
+/// The same of this primary.
+fn tells_of<R: Wait>(
+    rt: &R,
+    alloc: Global,
+    core: PrimaryCore<MemJournal>,
+    setup: &Setup,
+) -> Result<bool, Fail> {
+    let Some(figures) = made(Figures::new(alloc, setup.replicas)) else {
+        drop(core);
+        return Err("no desk".into());
+    };
+    let tells = tells_after(rt, alloc, core, setup, &figures);
+    drop(figures);
+    tells
+}
+
+/// The same with these figures, on a line of its own.
+fn tells_after<R: Wait>(
+    rt: &R,
+    alloc: Global,
+    core: PrimaryCore<MemJournal>,
+    setup: &Setup,
+    figures: &Figures,
+) -> Result<bool, Fail> {
+    let Some(start) = made(Start::new(2)) else {
+        drop(core);
+        return Err("start".into());
+    };
+    match tells_so::<Brand, MemJournal, R>(rt, alloc, core, start, setup, figures) {
+        Some(tells) => Ok(tells),
+        None => Err("no desk".into()),
     }
-    Some(true)
+}
+
+/// The same of a primary that is started.
+fn tells<R: Wait>(rt: &R, alloc: Global) -> Result<bool, Fail> {
+    let setup = setup(alloc)?;
+    let tells = tells_with(rt, alloc, &setup);
+    drop(setup);
+    tells
 }
 
 #[test]
 fn a_desk_tells_how_its_node_does(rt: HostRuntime) -> Result<(), Fail> {
-    let alloc = rt.alloc();
-    let setup = setup(alloc)?;
-    let Ok(core) = PrimaryCore::start(alloc, MemJournal::new(alloc), &setup.schema, WORKERS) else {
-        return Err("out of memory".into());
-    };
-    let start = Start::new(2).ok().ok_or("start")?;
-    let told = tells_so::<Brand, MemJournal, _>(&rt, alloc, core, start, &setup);
-    assert!(rt; told.ok_or("no desk")?);
+    assert!(rt; tells(&rt, rt.alloc())?);
     Ok(())
 }

@@ -1,5 +1,5 @@
 -- The line: the name that was just made, and the primary that is handed in.
-use Rattle.scenarios_gateway.proofs.failures.jobs_without_memory_are_told_the_truth.Given as goal
+use Rattle.scenarios_gateway.proofs.failures.is_true_after.Given as goal
 
 abbrev pub ghosts-is_true_on_line-L-Naming : goal.ghosts-is_true_on_line-L-Naming
 ghosts-is_true_on_line-L-Naming g a = record { book = a.start.opened.seen.book }

@@ -1,5 +1,5 @@
 -- The line: the name that was just made, and the primary that is handed in.
-use Rattle.scenarios_gateway.proofs.jobs.go_so.Given as goal
+use Rattle.scenarios_gateway.proofs.desks.go_so_after.Given as goal
 
 abbrev pub ghosts-all_go_so-L-Naming : goal.ghosts-all_go_so-L-Naming
 ghosts-all_go_so-L-Naming g a = record { book = a.start.opened.seen.book }

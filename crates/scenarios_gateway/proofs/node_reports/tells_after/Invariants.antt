@@ -1,5 +1,5 @@
 -- The line: the name that was just made, and the primary that is handed in.
-use Rattle.scenarios_gateway.proofs.node_reports.a_desk_tells_how_its_node_does.Given as goal
+use Rattle.scenarios_gateway.proofs.node_reports.tells_after.Given as goal
 
 abbrev pub ghosts-tells_so-L-Naming : goal.ghosts-tells_so-L-Naming
 ghosts-tells_so-L-Naming g a = record { book = a.start.opened.seen.book }
