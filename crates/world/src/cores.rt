@@ -159,7 +159,14 @@ pub fn new_replicas(
     let mut cores = Vec::new(alloc);
     let mut boots = Vec::new(alloc);
     let mut asked_at = Vec::new(alloc);
-    add_replicas(alloc, setup, partitions, &mut cores, &mut boots, &mut asked_at)?;
+    add_replicas(
+        alloc,
+        setup,
+        partitions,
+        &mut cores,
+        &mut boots,
+        &mut asked_at,
+    )?;
     Ok(NewReplicas {
         setup: copy_of(setup)?,
         cores,
@@ -231,11 +238,7 @@ fn copy_of(setup: &Setup) -> Result<Setup, AllocError>
 }
 
 /// A store for a replica, without rows. Fails only if out of memory.
-pub fn store_of(
-    alloc: Global,
-    schema: &Schema,
-    partitions: usize,
-) -> Result<ColumnStore, AllocError>
+fn store_of(alloc: Global, schema: &Schema, partitions: usize) -> Result<ColumnStore, AllocError>
     ensures tables { IfOk result (λ store. tables_in store.partitions ≡ opening (shape_of schema.now)) }
     ensures whole { IfOk result (λ store. store.whole ≡ true) }
     ensures base { IfOk result (λ store. store.base_shape ≡ shape_of schema.now) }

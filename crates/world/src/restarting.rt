@@ -21,8 +21,7 @@ impl Cores {
         if self.boots[index].has(boot) {
             return Output::BootUsed;
         }
-        let Ok(replica) = new_replica(self.alloc, &self.setup, self.partitions, number, boot)
-        else {
+        let Ok(replica) = new_replica(self.alloc, &self.setup, self.partitions, number, boot) else {
             return Output::Memory;
         };
         let boots = &mut self.boots[index];

@@ -10,7 +10,7 @@ use Rattle.world.proofs.script_running.play.Goals as goal
 pub returns-clause-printed : goal.returns-clause-printed
 returns-clause-printed g c =
     let printed : (outputs : List Output) → KeepsPromises (new_opening c.in-Ok.read.0) c.in-Ok.read.1.items outputs
-        → IsPrinted c.args.echo c.args.script.now (run_text c.args.echo c.in-Ok.read.0 c.in-Ok.read.1.items outputs) =
+    → IsPrinted c.args.echo c.args.script.now (run_text c.args.echo c.in-Ok.read.0 c.in-Ok.read.1.items outputs) =
     λ outputs kept. record {
       setup = c.in-Ok.read.0;
       events = c.in-Ok.read.1.items;
@@ -25,7 +25,7 @@ returns-clause-printed g c =
 pub returns-clause-interrupted : goal.returns-clause-interrupted
 returns-clause-interrupted g c = λ same.
     let printed : (outputs : List Output) → KeepsPromises (new_opening c.in-Ok.read.0) c.in-Ok.read.1.items outputs
-        → IsPrinted c.args.echo c.args.script.now (run_text c.args.echo c.in-Ok.read.0 c.in-Ok.read.1.items outputs) =
+    → IsPrinted c.args.echo c.args.script.now (run_text c.args.echo c.in-Ok.read.0 c.in-Ok.read.1.items outputs) =
     λ outputs kept. record {
       setup = c.in-Ok.read.0;
       events = c.in-Ok.read.1.items;
