@@ -410,6 +410,19 @@ module _ (p old : Cores) (seen : p ≡ old) (number : ℕ) where
         subst (λ x. MayStep x (events.Ask number) (of_ask fault) x) seen
         (inl (ap (ask_by p number) at ∙ ap (asking p number before.batch) refused))
 
+    -- an ask for which there is no memory
+    pub ask_lacks : IsOk (asked before) → (new : Cores) → new ≡ old → MayStep old (events.Ask number) outputs.Memory new
+    ask_lacks taken new same = inr (
+      refl,
+      same,
+      subst (λ (x : Cores). TakesMemory (ask_by x number (slice_get x.replicas number)).0) seen
+          (subst (λ (found : Option Replica). TakesMemory (ask_by p number found).0) (sym at) (by (asked before) taken)),
+    )
+      where
+        by : (answer : Result (Out × Replica) AskFault) → IsOk answer → TakesMemory (asking p number before.batch answer).0
+        by (Ok done) ok = refl
+        by (Err fault) ok = absurd (false≢true ok)
+
     -- a renewal that is refused
     pub renew_told : (fault : AskFault) → (after ≡ before) × (renewed before ≡ Err fault)
         → MayStep old (events.Renew number) (of_ask fault) (with_replica p number after)

@@ -272,10 +272,10 @@ module _ (p old : Cores) (seen : p ≡ old) (number boot : ℕ) (below : boot < 
     ),
   )
 
-  pub restart_done : (r new : Replica) (after : List ℕ) → slice_get p.replicas number ≡ Some r → had_boot had boot ≡ false
+  restart_made : (r new : Replica) (after : List ℕ) → slice_get p.replicas number ≡ Some r → had_boot had boot ≡ false
       → after ≡ had ++ boot ∷ [] → new ≡ replica_started p.primary.schema p.primary.workers number boot
       → MayStep old (Restart number boot) (outputs.Boot boot) (placed new after)
-  restart_done r new after there none grown made =
+  restart_made r new after there none grown made =
       let is = index-at p.boots number had at in
       let answer : Bool → Output × Cores = λ used. cond used (outputs.BootUsed, p) (outputs.Boot boot, with_restarted p number boot) in
       let told : Replica × List ℕ → Output × Cores = λ x. (outputs.Boot boot, placed x.0 x.1) in
@@ -284,3 +284,11 @@ module _ (p old : Cores) (seen : p ≡ old) (number boot : ℕ) (below : boot < 
       (new, after) = cc (is, grown, made) in
       subst (λ (x : Cores). MayStep x (Restart number boot) (outputs.Boot boot) (placed new after)) seen
       (below, inl (ap (restart_by p number boot) there ∙ ap answer (ap (λ (l : List ℕ). had_boot l boot) is ∙ none) ∙ ap told stands))
+
+  pub restart_done : (new : Replica) (after : List ℕ) → number < length p.replicas → had_boot had boot ≡ false
+      → after ≡ had ++ boot ∷ [] → new ≡ replica_started p.primary.schema p.primary.workers number boot
+      → MayStep old (Restart number boot) (outputs.Boot boot) (placed new after)
+  restart_done new after there none grown made = elim (slice_get_cases p.replicas number).1 [
+    | inl found ↦ restart_made _ new after found.2 none grown made
+    | inr past ↦ absurd (omega (arith, there, past.0))
+  ]

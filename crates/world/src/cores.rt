@@ -1,6 +1,6 @@
 //! The cores of a world, with what is around them: the primary and the replicas, the open transactions, and what was sent.
 
-ghost use Rattle.std.specs.Prelude.{◌≡◌, ◌<◌, ◌≤◌, true, false, IfOk};
+ghost use Rattle.std.specs.Prelude.{◌≡◌, ◌<◌, ◌≤◌, [], true, false, IfOk, OnOk};
 ghost use Rattle.apply.specs.Partitions.{tables_in};
 ghost use Rattle.rows.specs.Commits.{IsLegal};
 ghost use Rattle.rows.specs.Limits.{workers_max, replicas_max};
@@ -9,6 +9,7 @@ ghost use Rattle.rows.specs.Tables.{opening};
 ghost use Rattle.journal.specs.Text.{journal_text};
 ghost use Rattle.primary.specs.Journaling.{IsFormOf};
 ghost use Rattle.primary.specs.Steps.{started_primary};
+ghost use Rattle.dispatcher.specs.Steps.{started_replica};
 ghost use Rattle.world.specs.Cores.{Cores, new_opening, cores_started};
 ghost use Rattle.world.specs.Inner.Nodes.{primary_in, durable_in, opening_of, AreNewReplicas};
 ghost use Rattle.world.specs.Inner.CoreSteps.{KeepsStopped};
@@ -155,17 +156,17 @@ pub fn new_replicas(
     ensures setup { IfOk result (λ made. made.setup ≡ setup.now) }
     ensures new { IfOk result (λ made. AreNewReplicas setup.now made.cores.items made.boots.items made.asked_at.items) }
 {
-    let schema = &setup.schema;
-    let workers = setup.workers;
     let mut cores = Vec::new(alloc);
-    let mut asked_at = Vec::new(alloc);
     let mut boots = Vec::new(alloc);
-    for number in 0..setup.replicas {
-        let store = store_of(alloc, schema, partitions)?;
-        cores.push(ReplicaCore::start(alloc, store, schema, workers, number, 1)?)?;
-        asked_at.push(0)?;
-        boots.push(BootList::of_one(alloc, 1)?)?;
-    }
+    let mut asked_at = Vec::new(alloc);
+    add_replicas(
+        alloc,
+        setup,
+        partitions,
+        &mut cores,
+        &mut boots,
+        &mut asked_at,
+    )?;
     Ok(NewReplicas {
         setup: copy_of(setup)?,
         cores,
@@ -173,6 +174,56 @@ pub fn new_replicas(
         boots,
         asked_at,
     })
+}
+
+/// Adds all replicas to lists that are empty: the replicas, their boots, and what is noted of their
+/// batches. Fails only if out of memory.
+fn add_replicas(
+    alloc: Global,
+    setup: &Setup,
+    partitions: usize,
+    cores: &mut Vec<ReplicaCore<ColumnStore>>,
+    boots: &mut Vec<BootList>,
+    asked_at: &mut Vec<u64>,
+) -> Result<(), AllocError>
+    requires some { 0 < setup.now.workers }
+    requires workers { setup.now.workers ≤ workers_max }
+    requires replicas { setup.now.replicas ≤ replicas_max }
+    requires none { (cores.old.items ≡ []) × (boots.old.items ≡ []) × (asked_at.old.items ≡ []) }
+    ensures { OnOk result (AreNewReplicas setup.now cores.new.items boots.new.items asked_at.new.items) }
+{
+    for number in 0..setup.replicas {
+        cores.push(new_replica(alloc, setup, partitions, number, 1)?)?;
+        asked_at.push(0)?;
+        boots.push(BootList::of_one(alloc, 1)?)?;
+    }
+    Ok(())
+}
+
+/// A replica without frames, in this boot, whose store has so many partitions. Fails only if out of
+/// memory.
+pub fn new_replica(
+    alloc: Global,
+    setup: &Setup,
+    partitions: usize,
+    number: u8,
+    boot: u64,
+) -> Result<ReplicaCore<ColumnStore>, AllocError>
+    requires some { 0 < setup.now.workers }
+    requires workers { setup.now.workers ≤ workers_max }
+    requires number { number < replicas_max }
+    ensures { IfOk result (λ replica. replica ≡ started_replica setup.now.schema setup.now.workers number boot) }
+{
+    let schema = &setup.schema;
+    let store = store_of(alloc, schema, partitions)?;
+    ReplicaCore::start(alloc, store, schema, setup.workers, number, boot)
+}
+
+/// Puts a value in the place of another.
+pub fn put<T: Drop>(place: &mut T, new: T)
+    ensures { place.new ≡ new }
+{
+    *place = new;
 }
 
 /// A copy of the setup. Fails only if out of memory.
@@ -187,11 +238,7 @@ fn copy_of(setup: &Setup) -> Result<Setup, AllocError>
 }
 
 /// A store for a replica, without rows. Fails only if out of memory.
-pub fn store_of(
-    alloc: Global,
-    schema: &Schema,
-    partitions: usize,
-) -> Result<ColumnStore, AllocError>
+fn store_of(alloc: Global, schema: &Schema, partitions: usize) -> Result<ColumnStore, AllocError>
     ensures tables { IfOk result (λ store. tables_in store.partitions ≡ opening (shape_of schema.now)) }
     ensures whole { IfOk result (λ store. store.whole ≡ true) }
     ensures base { IfOk result (λ store. store.base_shape ≡ shape_of schema.now) }

@@ -1,12 +1,13 @@
 //! Restarts of replicas.
 
-ghost use Rattle.std.specs.Prelude.{◌<◌, length};
+ghost use Rattle.std.specs.Prelude.{◌≡◌, ◌<◌, ◌++◌, [], ◌∷◌, length, slice_set, vec_len, OnOk, OnErr};
 ghost use Rattle.world.specs.Inner.CoreSteps.{MayStep};
 ghost use Rattle.world.specs.Inner.Invariant.{IsReady};
 
-use crate::cores::{Cores, store_of};
-use dispatcher::ReplicaCore;
+use crate::boot_list::BootList;
+use crate::cores::{Cores, new_replica};
 use script::{Event, Output};
+use std::alloc::AllocError;
 
 impl Cores {
     /// Replaces a replica by a new one, in a boot that it never had: without frames, queries or a
@@ -20,19 +21,32 @@ impl Cores {
         if self.boots[index].has(boot) {
             return Output::BootUsed;
         }
-        let schema = &self.setup.schema;
-        let workers = self.setup.workers;
-        let Ok(store) = store_of(self.alloc, schema, self.partitions) else {
+        let Ok(replica) = new_replica(self.alloc, &self.setup, self.partitions, number, boot) else {
             return Output::Memory;
         };
-        let Ok(replica) = ReplicaCore::start(self.alloc, store, schema, workers, number, boot)
-        else {
-            return Output::Memory;
-        };
-        if self.boots[index].push(boot).is_err() {
+        let boots = &mut self.boots[index];
+        if begin_boot(&mut self.replicas, index, replica, boots, boot).is_err() {
             return Output::Memory;
         }
-        self.replicas[index] = replica;
         Output::Boot(boot)
     }
+}
+
+/// Puts a replica in the place of an old one, and notes its boot. Fails only if out of memory, and
+/// then the old one stays.
+fn begin_boot<T: Drop>(
+    replicas: &mut Vec<T>,
+    index: usize,
+    replica: T,
+    boots: &mut BootList,
+    boot: u64,
+) -> Result<(), AllocError>
+    requires { index < vec_len replicas.old }
+    ensures ok { OnOk result ((replicas.new.items ≡ slice_set replicas.old.items index replica)
+        × (boots.new ≡ boots.old ++ boot ∷ [])) }
+    ensures err { OnErr result ((replicas.new.items ≡ replicas.old.items) × (boots.new ≡ boots.old)) }
+{
+    boots.push(boot)?;
+    replicas[index] = replica;
+    Ok(())
 }

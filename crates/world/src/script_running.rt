@@ -1,9 +1,15 @@
 //! A script from a reader to a writer.
 
-ghost use Rattle.std.specs.Prelude.{◌≡◌, ◌≢◌, List, ℕ, IfErr, OnOk, OnErr, Err};
+ghost use Rattle.std.specs.Prelude.{◌≡◌, ◌≢◌, ◌<◌, ◌≤◌, List, ℕ, IfErr, OnOk, OnErr, Err};
+ghost use Rattle.std.specs.List.{AllByRecursion};
 ghost use Rattle.std.specs.Io.KnownBytes.{Appends, Keeps};
+ghost use Rattle.rows.specs.Limits.{workers_max, replicas_max};
+ghost use Rattle.script.specs.declared.output.Output.{Output as OutputOf};
+ghost use Rattle.script.specs.Events.{IsPossible};
 ghost use Rattle.script.specs.Scripts.{IsScriptFault};
 ghost use Rattle.script.specs.Writing.{IsPartlyWritten};
+ghost use Rattle.world.specs.Cores.{new_opening};
+ghost use Rattle.world.specs.Theorem.{KeepsPromises};
 ghost use Rattle.world.specs.Scripts.{WasRead, IsPrinted, run_text};
 
 use crate::faults::RunFault;
@@ -60,16 +66,80 @@ pub fn run_script<T: Threads + Sync, R: Read, W: Write>(
             _ => RunFault::Read,
         });
     }
-    let (setup, events) = match read_script(alloc, script.as_slice()) {
+    play(rt, alloc, echo, script.as_slice(), writer)
+}
+
+/// Runs all events of a script, and then writes the text of their outputs and flushes it.
+fn play<T: Threads + Sync, W: Write>(
+    rt: &T,
+    alloc: Global,
+    echo: Echo,
+    script: &[u8],
+    writer: &mut W,
+) -> Result<(), RunFault>
+    ensures printed { OnOk result ((text : List ℕ) × IsPrinted echo script.now text
+        × Appends (W.contents writer.old) (W.contents writer.new) text) }
+    ensures interrupted { result ≡ Err RunFault.Write → (text : List ℕ) × IsPrinted echo script.now text
+        × IsPartlyWritten (W.contents writer.old) (W.contents writer.new) text }
+    ensures faulty { (line : ℕ) (reason : Reason) → result ≡ Err (RunFault.Script line reason)
+        → IsScriptFault script.now (ScriptFault.At line reason) }
+    ensures unwritten { IfErr result (λ fault. fault ≢ RunFault.Write
+        → Keeps (W.contents writer.old) (W.contents writer.new)) }
+{
+    let (setup, events) = match read_script(alloc, script) {
         Ok(read) => read,
         Err(ScriptFault::At { line, reason }) => return Err(RunFault::Script { line, reason }),
         Err(ScriptFault::Memory) => return Err(RunFault::Memory),
     };
-    let events = events.as_slice();
-    let Ok(outputs) = run(rt, alloc, &setup, events) else {
+    play_events(rt, alloc, echo, &setup, events.as_slice(), writer)
+}
+
+/// Runs events, and then writes the text of their outputs and flushes it.
+fn play_events<T: Threads + Sync, W: Write>(
+    rt: &T,
+    alloc: Global,
+    echo: Echo,
+    setup: &Setup,
+    events: &[Event],
+    writer: &mut W,
+) -> Result<(), RunFault>
+    requires some { 0 < setup.now.workers }
+    requires workers { setup.now.workers ≤ workers_max }
+    requires replicas { setup.now.replicas ≤ replicas_max }
+    requires possible { AllByRecursion (IsPossible setup.now.workers setup.now.replicas) events.now }
+    ensures printed { OnOk result ((outputs : List OutputOf) × KeepsPromises (new_opening setup.now) events.now outputs
+        × Appends (W.contents writer.old) (W.contents writer.new) (run_text echo setup.now events.now outputs)) }
+    ensures interrupted { result ≡ Err RunFault.Write → (outputs : List OutputOf)
+        × KeepsPromises (new_opening setup.now) events.now outputs
+        × IsPartlyWritten (W.contents writer.old) (W.contents writer.new) (run_text echo setup.now events.now outputs) }
+    ensures other { (line : ℕ) (reason : Reason) → ¬ (result ≡ Err (RunFault.Script line reason)) }
+    ensures unwritten { IfErr result (λ fault. fault ≢ RunFault.Write
+        → Keeps (W.contents writer.old) (W.contents writer.new)) }
+{
+    let Ok(outputs) = run(rt, alloc, setup, events) else {
         return Err(RunFault::Memory);
     };
-    match write_run(alloc, echo, writer, &setup, events, outputs.as_slice()) {
+    write_out(alloc, echo, writer, setup, events, outputs.as_slice())
+}
+
+/// Writes the text of a run and flushes it.
+fn write_out<W: Write>(
+    alloc: Global,
+    echo: Echo,
+    writer: &mut W,
+    setup: &Setup,
+    events: &[Event],
+    outputs: &[Output],
+) -> Result<(), RunFault>
+    ensures written { OnOk result (Appends (W.contents writer.old) (W.contents writer.new)
+        (run_text echo setup.now events.now outputs.now)) }
+    ensures interrupted { result ≡ Err RunFault.Write → IsPartlyWritten (W.contents writer.old) (W.contents writer.new)
+        (run_text echo setup.now events.now outputs.now) }
+    ensures other { (line : ℕ) (reason : Reason) → ¬ (result ≡ Err (RunFault.Script line reason)) }
+    ensures unwritten { IfErr result (λ fault. fault ≢ RunFault.Write
+        → Keeps (W.contents writer.old) (W.contents writer.new)) }
+{
+    match write_run(alloc, echo, writer, setup, events, outputs) {
         Ok(()) => match writer.flush() {
             Ok(()) => Ok(()),
             Err(_) => Err(RunFault::Write),

@@ -1,6 +1,6 @@
 //! Runs of a list of events on a world from its beginning on.
 
-ghost use Rattle.std.specs.Prelude.{◌≡◌, ◌^◌, ◌<◌, ◌≤◌, [], length, IfOk, IfErr};
+ghost use Rattle.std.specs.Prelude.{◌≡◌, ◌^◌, ◌<◌, ◌≤◌, [], length, IfOk, IfErr, OnOk};
 ghost use Rattle.std.specs.List.{AllByRecursion};
 ghost use Rattle.rows.specs.Shape.{shape_of};
 ghost use Rattle.journal.specs.Recovery.{IsRefusal};
@@ -119,12 +119,45 @@ fn run_through<R: Threads + Sync>(
         → KeepsPromises opening events.now outputs.items) }
 {
     let mut world = opened;
+    outputs_of(rt, alloc, &mut world, events)
+}
+
+/// The same on a world that is lent.
+fn outputs_of<R: Threads + Sync>(
+    rt: &R,
+    alloc: Global,
+    world: &mut World,
+    events: &[Event],
+) -> Result<Vec<Output>, AllocError>
+    requires replicas { length world.old.replicas ≤ replicas_max }
+    requires possible { AllByRecursion (IsPossible world.old.primary.workers (length world.old.replicas)) events.now }
+    ensures { IfOk result (λ outputs. (opening : Opening) → world.old ≡ cores_started opening → length opening.durable < 2 ^ 64
+        → KeepsPromises opening events.now outputs.items) }
+{
     let mut outputs = Vec::new(alloc);
+    step_through(rt, world, events, &mut outputs)?;
+    Ok(outputs)
+}
+
+/// Lets the events happen one after the other, and notes their outputs in a list that is empty.
+/// Fails only if out of memory.
+fn step_through<R: Threads + Sync>(
+    rt: &R,
+    world: &mut World,
+    events: &[Event],
+    outputs: &mut Vec<Output>,
+) -> Result<(), AllocError>
+    requires replicas { length world.old.replicas ≤ replicas_max }
+    requires possible { AllByRecursion (IsPossible world.old.primary.workers (length world.old.replicas)) events.now }
+    requires none { outputs.old.items ≡ [] }
+    ensures { OnOk result ((opening : Opening) → world.old ≡ cores_started opening → length opening.durable < 2 ^ 64
+        → KeepsPromises opening events.now outputs.new.items) }
+{
     for event in events {
         let output = world.step(rt, event);
         outputs.push(output)?;
     }
     world.keeps_legal();
     steps_are_told();
-    Ok(outputs)
+    Ok(())
 }

@@ -13,7 +13,7 @@ ghost use Rattle.world.specs.Inner.Invariant.{IsReady};
 ghost use Rattle.world.specs.Inner.Nodes.{IsStoppedOn};
 ghost use Rattle.world.specs.Stops.{closed};
 
-use crate::cores::Cores;
+use crate::cores::{Cores, put};
 use crate::primary_node::PrimaryNode;
 use crate::running_primary::RunningPrimary;
 use journal::laws::{stops_are_recovered, texts_grow};
@@ -45,11 +45,12 @@ impl Cores {
         else {
             return Output::Memory;
         };
-        self.primary = PrimaryNode::Stopped {
+        let stopped = PrimaryNode::Stopped {
             journal: MemJournal::of(content),
             kept: kept.commits,
             form: kept.form,
         };
+        put(&mut self.primary, stopped);
         close_all(self.transactions.as_mut_slice());
         Output::Stopped
     }
@@ -68,11 +69,11 @@ impl Cores {
         match start_on(self.alloc, old, &setup.schema, setup.workers) {
             Ok(primary) => {
                 let durable = primary.durable();
-                self.primary = PrimaryNode::Running(primary);
+                put(&mut self.primary, PrimaryNode::Running(primary));
                 Output::Durable(durable)
             }
             Err(back) => {
-                *journal = back;
+                put(journal, back);
                 Output::Memory
             }
         }

@@ -1,11 +1,21 @@
 -- What the primary answers is sent, or there is no memory for it.
 use Rattle.std.proofs.Common.{refl, sym}
-use Rattle.std.proofs.lemmas.Bool.{ltb-true}
-use Rattle.std.proofs.lemmas.Option.{slice_get_read}
+use Rattle.std.proofs.lemmas.Bool.{ltb-true, ltb-false}
+use Rattle.std.proofs.lemmas.Option.{slice_get_read, slice_get_past}
 use Rattle.world.specs.declared.primary_node.PrimaryNode.TheVariants.{Running}
-use Rattle.world.proofs.Delivering.{deliver_lacks, delivered_to}
+use Rattle.world.proofs.Delivering.{never_sent, deliver_lacks, delivered_to}
 use Rattle.world.proofs.Nodes.{node_seen}
 use Rattle.world.proofs.cores.Cores.deliver_to_primary.Goals as goal
+
+pub returns-in_default-get : goal.returns-in_default-get
+returns-in_default-get c =
+    let inside = c.self.inside in
+    let seen =
+    node_seen inside.setup inside.primary (Running c.in-Running.primary) inside.transactions.items inside.sent.items inside.replicas.items
+    inside.boots.items inside.asked_at.items c.args.self.now c.in-Running.is c.self.view_is in
+    let at = rw c.deref.ensures.value at (slice_get_past c.deref.result.now c.args.index
+    (ltb-false _ _ (sym c.in_default-get.ensures.lookup.0))) in
+    never_sent _ _ seen c.args.index refl at
 
 pub returns-in_default-on_bytes : goal.returns-in_default-on_bytes
 returns-in_default-on_bytes c =

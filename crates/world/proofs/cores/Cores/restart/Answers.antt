@@ -11,12 +11,13 @@ returns-then-is_err c =
     let there = rw (← c.self.view_is) at c.requires.there in
     let as_many = rw (← c.self.view_is) at c.requires.ready.boots_there in
     let within : c.args.number < length boots = omega (arith, as_many, there) in
-    let at = slice_get_read boots _ c.args.number c.index_mut.result.now refl within c.index_mut.ensures.value in
+    let at = slice_get_read boots _ c.args.number c.index_mut-boots.result.now refl within c.index_mut-boots.ensures.value in
     let looked = slice_get_read boots _ c.args.number c.index.result.now refl within c.index.ensures in
-    let same = same_Some c.index.result.now c.index_mut.result.now (sym looked ∙ at) in
+    let same = same_Some c.index.result.now c.index_mut-boots.result.now (sym looked ∙ at) in
     let none = sym (ap (λ boots. had_boot boots c.args.boot) same) ∙ sym c.has.ensures ∙ c.if-has.false in
-    restart_refused _ _ c.self.view_is c.args.number c.args.boot (omega arith) c.index_mut.result.now at c.push.new.self there none
-    (on-err c.push.result _ c.push.ensures.err (sym c.is_err.ensures.value ∙ c.if-is_err.true))
+    let stays = on-err c.begin_boot.result _ c.begin_boot.ensures.err (sym c.is_err.ensures.value ∙ c.if-is_err.true) in
+    rw stays.0 (restart_refused _ _ c.self.view_is c.args.number c.args.boot (omega arith) c.index_mut-boots.result.now at
+    c.begin_boot.new.boots there none stays.1)
 
 pub returns : goal.returns
 returns c =
@@ -26,13 +27,10 @@ returns c =
     let as_many = rw (← c.self.view_is) at c.requires.ready.boots_there in
     let setup_is = rw (← c.self.view_is) at c.requires.ready.setup_is in
     let within : c.args.number < length boots = omega (arith, as_many, there) in
-    let at = slice_get_read boots _ c.args.number c.index_mut.result.now refl within c.index_mut.ensures.value in
-    let replica_at =
-    slice_get_read inside.replicas.items _ c.args.number c.index_mut-2.result.now refl there c.index_mut-2.ensures.value in
+    let at = slice_get_read boots _ c.args.number c.index_mut-boots.result.now refl within c.index_mut-boots.ensures.value in
     let looked = slice_get_read boots _ c.args.number c.index.result.now refl within c.index.ensures in
-    let same = same_Some c.index.result.now c.index_mut.result.now (sym looked ∙ at) in
+    let same = same_Some c.index.result.now c.index_mut-boots.result.now (sym looked ∙ at) in
     let none = sym (ap (λ boots. had_boot boots c.args.boot) same) ∙ sym c.has.ensures ∙ c.if-has.false in
-    restart_done _ _ c.self.view_is c.args.number c.args.boot (omega arith) c.index_mut.result.now at c.index_mut-2.result.now
-    c.in-Ok-start.replica c.push.new.self replica_at none
-    (on-ok c.push.result _ c.push.ensures.ok (sym c.is_err.ensures.value ∙ c.if-is_err.false))
-    (rw (← setup_is.0, ← setup_is.1) c.in-Ok-start.ensures)
+    let begun = on-ok c.begin_boot.result _ c.begin_boot.ensures.ok (sym c.is_err.ensures.value ∙ c.if-is_err.false) in
+    rw begun.0 (restart_done _ _ c.self.view_is c.args.number c.args.boot (omega arith) c.index_mut-boots.result.now at c.in-Ok.replica
+    c.begin_boot.new.boots there none begun.1 (rw (← setup_is.0, ← setup_is.1) c.in-Ok.ensures))

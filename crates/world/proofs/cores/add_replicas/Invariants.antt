@@ -1,7 +1,7 @@
 -- The replicas so far, followed by those that are still to be made.
 use Rattle.std.proofs.Common.{◌≡◌, ◌-◌, ◌++◌, [], ◌∷◌, replicate}
 use Rattle.world.specs.Cores.{replicas_from, zeros}
-use Rattle.world.proofs.cores.new_replicas.Given as goal
+use Rattle.world.proofs.cores.add_replicas.Given as goal
 
 abbrev pub invariant-loop-number : goal.invariant-loop-number
 invariant-loop-number l = record {

@@ -10,14 +10,14 @@ use Rattle.world.specs.Cores.{Cores}
 use Rattle.world.proofs.Continuing.{RunsSoFar, none_yet, one_more, keeps_promises}
 use Rattle.world.proofs.Slots.{all_at}
 use Rattle.world.proofs.Starting.{as_many}
-use Rattle.world.proofs.simulator.run_through.Goals as goal
+use Rattle.world.proofs.simulator.step_through.Goals as goal
 
 pub loop-event-init : goal.loop-event-init
 loop-event-init g c = record {
   schema = refl;
   workers = refl;
   replicas = refl;
-  so_far = λ opening is. rw (c.new-outputs.ensures.items, is) (none_yet opening);
+  so_far = λ opening is. rw (c.requires.none, is) (none_yet opening);
 }
 
 pub loop-event-preserved : goal.loop-event-preserved
@@ -49,7 +49,7 @@ step-output-requires g c =
     c.event-item.is in (
       search rules,
       rw (c.loop-event.invariant.workers, c.loop-event.invariant.replicas)
-          (all_at (IsPossible c.args.opened.primary.workers (length c.args.opened.replicas)) c.args.events.now c.loop-event.event-index
+          (all_at (IsPossible c.args.world.now.primary.workers (length c.args.world.now.replicas)) c.args.events.now c.loop-event.event-index
           c.event-item.result at c.requires.possible),
     )
 
