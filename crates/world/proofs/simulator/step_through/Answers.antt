@@ -49,8 +49,8 @@ step-output-requires g c =
     c.event-item.is in (
       search rules,
       rw (c.loop-event.invariant.workers, c.loop-event.invariant.replicas)
-          (all_at (IsPossible c.args.world.now.primary.workers (length c.args.world.now.replicas)) c.args.events.now c.loop-event.event-index
-          c.event-item.result at c.requires.possible),
+          (all_at (IsPossible c.args.world.now.primary.workers (length c.args.world.now.replicas)) c.args.events.now
+          c.loop-event.event-index c.event-item.result at c.requires.possible),
     )
 
 pub returns : goal.returns

@@ -21,10 +21,12 @@ pub returns-then-is_err : goal.returns-then-is_err
 returns-then-is_err c =
     let there = rw (← c.self.view_is) at c.requires.there in
     let at = slice_get_read c.self.inside.replicas.items _ c.args.number c.index.result.now refl there c.index.ensures in
-    ask_lacks _ _ c.self.view_is c.args.number c.index.result.now c.index.result.now at c.in_default.ensures.ok _ (rw c.reserve.ensures.items c.self.view_is)
+    ask_lacks _ _ c.self.view_is c.args.number c.index.result.now c.index.result.now at c.in_default.ensures.ok _
+    (rw c.reserve.ensures.items c.self.view_is)
 
 pub returns-in_default-with_capacity-2 : goal.returns-in_default-with_capacity-2
 returns-in_default-with_capacity-2 c =
     let there = rw (← c.self.view_is) at c.requires.there in
     let at = slice_get_read c.self.inside.replicas.items _ c.args.number c.index.result.now refl there c.index.ensures in
-    ask_lacks _ _ c.self.view_is c.args.number c.index.result.now c.index.result.now at c.in_default.ensures.ok _ (rw c.reserve.ensures.items c.self.view_is)
+    ask_lacks _ _ c.self.view_is c.args.number c.index.result.now c.index.result.now at c.in_default.ensures.ok _
+    (rw c.reserve.ensures.items c.self.view_is)

@@ -40,6 +40,7 @@ returns c =
     let size : length c.close_all.new.transactions ≡ inside.transactions.len =
     omega (arith, ap length over, closed_length inside.transactions.items, inside.transactions.ok.0) in
     let slots = with_items_is inside.transactions c.close_all.new.transactions size ∙ over in
-    rw c.put.ensures (stop_done inside.setup core.primary core.journal.bytes core.form inside.transactions.items inside.sent.items inside.replicas.items
-    inside.boots.items inside.asked_at.items c.args.self.now c.args.bytes found.0 content kept.form kept.commits.items _ _ seen set same
+    rw c.put.ensures (stop_done inside.setup core.primary core.journal.bytes core.form inside.transactions.items inside.sent.items
+    inside.replicas.items inside.boots.items inside.asked_at.items c.args.self.now c.args.bytes found.0 content
+    kept.form kept.commits.items _ _ seen set same
     found.1 c.of.ensures c.in-Ok.ensures slots)
