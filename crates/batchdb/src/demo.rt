@@ -1,6 +1,7 @@
 //! The demonstration: a primary and two replicas in one process, over the loopback.
 
-ghost use Rattle.std.specs.Prelude.{◌≡◌};
+ghost use Rattle.std.specs.Prelude.{◌≡◌, ◌<◌, ◌≤◌};
+ghost use Rattle.rows.specs.Limits.{workers_max};
 
 use crate::failure::{Failure, Status, failure_of};
 use crate::files::refused;
@@ -53,19 +54,52 @@ pub fn run_demo<T: Threads + Wait + Net + Clock + Sync, W: Write>(
     host: Host<'_, T>,
     writer: &mut W,
 ) -> Result<(), Failure> {
-    let alloc = host.alloc;
-    let Ok(setup) = read_settings(alloc, SETTINGS.as_bytes()) else {
+    let Ok(setup) = read_settings(host.alloc, SETTINGS.as_bytes()) else {
         return Err(Failure::Memory);
     };
-    let Ok(jobs) = jobs(alloc) else {
+    let pair = pair_of(host, &setup);
+    drop(setup);
+    print_told(host.alloc, pair, writer)
+}
+
+/// What both replicas report of a new primary whose workers have done their jobs.
+fn pair_of<T: Threads + Wait + Net + Clock + Sync>(
+    host: Host<'_, T>,
+    setup: &Setup,
+) -> Result<(Reported, Reported), Failure>
+    requires some { 0 < setup.now.workers }
+    requires few { setup.now.workers ≤ workers_max }
+{
+    let Ok(jobs) = jobs(host.alloc) else {
         return Err(Failure::Memory);
     };
-    let core = PrimaryCore::start(alloc, MemJournal::new(alloc), &setup.schema, setup.workers);
-    let Ok(core) = core else {
-        return Err(Failure::Memory);
-    };
-    let pair = named(host, core, &setup, &jobs)?;
-    print_pair(alloc, &pair, writer)
+    let pair = pair_with(host, setup, &jobs);
+    drop(jobs);
+    pair
+}
+
+/// The same with these jobs.
+fn pair_with<T: Threads + Wait + Net + Clock + Sync>(
+    host: Host<'_, T>,
+    setup: &Setup,
+    jobs: &[Job],
+) -> Result<(Reported, Reported), Failure>
+    requires some { 0 < setup.now.workers }
+    requires few { setup.now.workers ≤ workers_max }
+{
+    let journal = MemJournal::new(host.alloc);
+    match some(PrimaryCore::start(host.alloc, journal, &setup.schema, setup.workers)) {
+        Some(core) => named(host, core, setup, jobs),
+        None => Err(Failure::Memory),
+    }
+}
+
+/// What was made, if it was.
+fn some<V: Drop, F: Drop>(made: Result<V, F>) -> Option<V> {
+    match made {
+        Ok(value) => Some(value),
+        Err(_) => None,
+    }
 }
 
 /// What both replicas report of a primary on a new line.
@@ -130,14 +164,34 @@ fn on_line<L: Origin + Send + Sync, T: Threads + Wait + Net + Clock + Sync>(
     requires seats { start.seats ≡ L.seats }
 {
     let workers = core.workers();
-    let Ok(line) = Line::<L, MemJournal, &T>::new(host.alloc, host.rt, core, start) else {
+    let Some(line) = some(Line::<L, MemJournal, &T>::new(host.alloc, host.rt, core, start)) else {
         return Err(Failure::Memory);
     };
-    do_all(host, &line, workers, jobs)?;
-    let Some(seat) = line.seat(host.rt) else {
-        return Err(Failure::Memory);
-    };
-    reported_by_both(host, &line, seat, setup)
+    let pair = served_on(host, &line, workers, setup, jobs);
+    drop(line);
+    pair
+}
+
+/// The same on a line without commits.
+fn served_on<
+    L: Origin + Send + Sync,
+    J: JournalStore + Drop + Send,
+    H: Wait + Drop + Send + Sync,
+    T: Threads + Wait + Net + Clock + Sync,
+>(
+    host: Host<'_, T>,
+    line: &Line<L, J, H>,
+    workers: u8,
+    setup: &Setup,
+    jobs: &[Job],
+) -> Result<(Reported, Reported), Failure>
+    requires { workers ≡ L.workers }
+{
+    do_all(host, line, workers, jobs)?;
+    match line.seat(host.rt) {
+        Some(seat) => reported_by_both(host, line, seat, setup),
+        None => Err(Failure::Memory),
+    }
 }
 
 /// Has the workers do their jobs.
@@ -234,7 +288,9 @@ fn reported_by_both<
         says: false,
     };
     let mut server = Server::new(node, pace);
-    reported_to(host, line, &mut server, first, second, setup)
+    let pair = reported_to(host, line, &mut server, first, second, setup);
+    drop(server);
+    pair
 }
 
 /// What both replicas report over these ports of a primary that this server serves.
@@ -260,17 +316,27 @@ fn reported_to<
     told_of(host.alloc, server.port(), served, pair)
 }
 
-/// What both replicas reported, or why the primary that served them has failed.
-fn told_of(
+/// What was told, or why the primary that served meanwhile has failed.
+fn told_of<V: Drop>(
     alloc: Global,
     port: &UdpPort,
     served: Result<(), NodeFault>,
-    pair: Result<(Reported, Reported), Failure>,
-) -> Result<(Reported, Reported), Failure> {
+    told: Result<V, Failure>,
+) -> Result<V, Failure> {
     match served {
-        Ok(()) => pair,
-        Err(NodeFault::Socket) => Err(socket_failure(alloc, port)),
-        Err(fault) => Err(failure_of(alloc, fault)),
+        Ok(()) => told,
+        Err(fault) => {
+            drop(told);
+            Err(failure_at(alloc, port, fault))
+        }
+    }
+}
+
+/// Why a primary has failed at this port.
+fn failure_at(alloc: Global, port: &UdpPort, fault: NodeFault) -> Failure {
+    match fault {
+        NodeFault::Socket => socket_failure(alloc, port),
+        fault => failure_of(alloc, fault),
     }
 }
 
@@ -287,6 +353,11 @@ fn report_twice<T: Threads + Wait + Sync>(
         || report_once(host, setup, 0, first, left),
         || report_once(host, setup, 1, second, left),
     );
+    both(one, other)
+}
+
+/// Both, or the first failure.
+fn both<V: Drop>(one: Result<V, Failure>, other: Result<V, Failure>) -> Result<(V, V), Failure> {
     match (one, other) {
         (Ok(one), Ok(other)) => Ok((one, other)),
         (Err(failure), _) => Err(failure),
@@ -320,7 +391,10 @@ fn report_of<T: Threads + Wait + Sync>(
     let mut node = ReplicaNode::new(host.alloc, core, port);
     match answer(host, setup, &mut node) {
         Ok(report) => Ok(Reported { node, report }),
-        Err(failure) => Err(failure),
+        Err(failure) => {
+            drop(node);
+            Err(failure)
+        }
     }
 }
 
@@ -333,13 +407,26 @@ fn answer<T: Threads + Wait + Sync>(
     let Ok(queue) = QueryQueue::new(host.alloc, 1) else {
         return Err(Failure::Memory);
     };
+    let answered = answer_from(host, setup, node, &queue);
+    drop(queue);
+    answered
+}
+
+/// The same from this queue, which is empty.
+fn answer_from<T: Threads + Wait + Sync>(
+    host: Host<'_, T>,
+    setup: &Setup,
+    node: &mut ReplicaNode<ColumnStore, UdpPort>,
+    queue: &QueryQueue,
+) -> Result<Option<ByteList>, Failure> {
     let Some(mut pass) = queue.pass() else {
         return Err(Failure::Memory);
     };
-    // The queue is empty, and has room for the query.
-    let _ = queue.put(host.rt, &mut pass, query(host.alloc, setup)?);
+    let plan = query(host.alloc, setup)?;
+    // The queue has room for it.
+    let _ = some(queue.put(host.rt, &mut pass, plan));
     let mut turns = Some(TURNS);
-    match serve_replica(host.rt, host.alloc, node, &queue, &mut pass, &mut turns) {
+    match serve_replica(host.rt, host.alloc, node, queue, &mut pass, &mut turns) {
         Ok(report) => Ok(report),
         Err(ServeFault::Socket) => Err(socket_failure(host.alloc, node.port())),
         Err(fault) => Err(failure_of(host.alloc, fault_of(fault))),
@@ -351,6 +438,22 @@ fn query(alloc: Global, setup: &Setup) -> Result<Plan, Failure> {
     match read_plan(alloc, QUERY.as_bytes(), setup) {
         Ok(Some(plan)) => Ok(plan),
         _ => Err(Failure::Memory),
+    }
+}
+
+/// Writes what both replicas reported, if they did.
+fn print_told<W: Write>(
+    alloc: Global,
+    told: Result<(Reported, Reported), Failure>,
+    writer: &mut W,
+) -> Result<(), Failure> {
+    match told {
+        Ok(pair) => {
+            let printed = print_pair(alloc, &pair, writer);
+            drop(pair);
+            printed
+        }
+        Err(failure) => Err(failure),
     }
 }
 
