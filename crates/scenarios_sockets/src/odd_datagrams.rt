@@ -159,26 +159,11 @@ fn receives_ask(socket: &UdpSocket) -> bool {
 /// Whether a datagram for all replicas goes to the second of two addresses where the first cannot be sent
 /// to, which is a counted fault with its reason.
 fn goes_to_the_second<N: Net>(net: &N, alloc: Global) -> Option<bool> {
-    let Ok(socket) = UdpSocket::bind(net, any()) else {
-        return None;
-    };
-    goes_to(net, alloc, &socket)
-}
-
-/// The same where the second address is that of this socket.
-fn goes_to<N: Net>(net: &N, alloc: Global, socket: &UdpSocket) -> Option<bool> {
-    let second = some(socket.local_addr())?;
-    let Ok(addresses) = Vec::from_slice(alloc, &[any(), second]) else {
-        return None;
-    };
-    let Ok(mut port) = UdpPort::bind(net, alloc, any(), None, addresses) else {
-        return None;
-    };
-    Some(is_sent_from(&mut port) && receives_ask(socket))
-}
-
-/// Whether an Ask for all replicas is a fault for the first address, and for no other.
-fn is_sent_from(port: &mut UdpPort) -> bool {
+    let socket = UdpSocket::bind(net, any()).ok()?;
+    let mut addresses = Vec::new(alloc);
+    addresses.push(any()).ok()?;
+    addresses.push(socket.local_addr().ok()?).ok()?;
+    let mut port = UdpPort::bind(net, alloc, any(), None, addresses).ok()?;
     let ask = Datagram::Ask {
         replica: 0,
         boot: 1,
@@ -188,11 +173,9 @@ fn is_sent_from(port: &mut UdpPort) -> bool {
         to: To::Replicas,
         packet: Packet::of(&ask),
     });
-    let Some(fault) = port.last_fault() else {
-        return false;
-    };
-    let reason = fault.raw_os_error();
-    ended == Err(PortFault::Send) && port.faults() == 1 && reason == Some(NO_SUCH_PORT)
+    let reason = port.last_fault()?.raw_os_error();
+    let is_counted = port.faults() == 1 && reason == Some(NO_SUCH_PORT);
+    Some(ended == Err(PortFault::Send) && is_counted && receives_ask(&socket))
 }
 
 /// An address that fails keeps a datagram from no other.
@@ -202,20 +185,13 @@ fn one_address_keeps_a_datagram_from_no_other(rt: HostRuntime) -> Result<(), Fai
     Ok(())
 }
 
-/// Whether a new port to which nothing was sent says so, and has no fault.
+/// Whether a port to which nothing was sent says so, and has no fault.
 fn is_silent<N: Net>(net: &N, alloc: Global) -> Option<bool> {
-    let Ok(mut port) = UdpPort::bind(net, alloc, any(), None, Vec::new(alloc)) else {
-        return None;
-    };
-    Some(says_nothing(&mut port))
-}
-
-/// Whether this port says that nothing came, and has no fault.
-fn says_nothing(port: &mut UdpPort) -> bool {
+    let mut port = UdpPort::bind(net, alloc, any(), None, Vec::new(alloc)).ok()?;
     let mut buffer = [0u8; 1201];
     let taken = port.recv(&mut buffer, Patience::Takes);
     let waited = port.recv(&mut buffer, Patience::Waits);
-    taken == Ok(None) && waited == Ok(None) && port.last_fault().is_none()
+    Some(taken == Ok(None) && waited == Ok(None) && port.last_fault().is_none())
 }
 
 #[test]
